@@ -7,7 +7,6 @@ use Rattle.std.proofs.lemmas.List.{take-append-le, take_min}
 use Rattle.std.specs.Io.KnownBytes.{Appends, Keeps}
 use Rattle.ifmap_io.specs.Written.{WritesAll}
 use Rattle.ifmap_server.specs.Output.{AppendsPrefix}
-use Rattle.ifmap_io.specs.Rises.{appends_whole}
 
 prefix_of : (a b c : List ℕ) (n : ℕ) → (m : ℕ) × (take m (a ++ (b ++ c)) ≡ a ++ take n b)
 prefix_of a b c n = (
@@ -35,13 +34,7 @@ pub second_prefix : (old mid new : Option (List ℕ)) (a b : List ℕ) → Appen
 second_prefix old mid new a b first second =
     appends_prefix old mid new a b [] (a ++ b) (ap (λ (x : List ℕ). a ++ x) (sym (append-nil b))) first second
 
-pub both_whole : (old mid new last : Option (List ℕ)) (a b : List ℕ) → Appends old mid a → Appends mid new b → Keeps new last
-    → Appends old last (a ++ b)
-both_whole old mid new last a b first second kept =
-    Appends-kept old new last (a ++ b) (Appends-trans old mid new a b first second) kept
-
-pub sent : {T E : Type 0} (result : Result T E) (old mid new last : Option (List ℕ)) (a b : List ℕ)
-    → Appends old mid a → Appends mid new b → Keeps new last → WritesAll old last result (a ++ b)
-sent (Ok x) old mid new last a b first second kept = both_whole old mid new last a b first second kept
-sent (Err e) old mid new last a b first second kept =
-    appends_whole old last (a ++ b) (both_whole old mid new last a b first second kept)
+pub both_sent : {T E : Type 0} (result : Result T E) (old mid new : Option (List ℕ)) (a b : List ℕ) → Appends old mid a
+    → WritesAll mid new result b → WritesAll old new result (a ++ b)
+both_sent (Ok x) old mid new a b first second = Appends-trans old mid new a b first second
+both_sent (Err e) old mid new a b first second = second_prefix old mid new a b first second

@@ -6,7 +6,7 @@ ghost use Rattle.ifmap_core.specs.ifmap_machine.Step.{refusal};
 ghost use Rattle.ifmap_server.specs.Output.{answer_text, unreadable_text};
 
 use crate::errors::ReplayError;
-use crate::sending::{hand_on, write};
+use crate::sending::{send, write};
 use ifmap_core::{Answer, Reply, write_reply};
 use ifmap_elem::{Many, Text};
 use ifmap_ident::Code;
@@ -85,7 +85,6 @@ impl AnswerText {
         ensures fault { HasCause (K.faults sink.old) (K.faults sink.new) result }
     {
         write(sink, self.line.as_bytes())?;
-        write(sink, self.reply.0.as_slice())?;
-        hand_on(sink)
+        send(sink, self.reply.0.as_slice())
     }
 }
