@@ -1,21 +1,18 @@
 -- What is written piece by piece, and counts of faults.
-use Rattle.std.proofs.Common.{◌≡◌, ℕ, ◌+◌, ◌≤◌, List, [], ◌++◌, length, take, append-nil, sym, subst, ◌∙◌, min, arith}
+use Rattle.std.proofs.Common.{◌≡◌, ℕ, ◌+◌, ◌≤◌, List, ◌++◌, length, take, sym, subst, ◌∙◌, min, arith}
 use Rattle.std.specs.Prelude.{Option, Result, Ok, Err}
 use Rattle.std.proofs.KnownBytes.{Appends-trans}
 use Rattle.std.proofs.Math.Seq.{take-append-add}
 use Rattle.std.proofs.lemmas.List.{take-append-le, take_min}
-use Rattle.std.specs.Io.KnownBytes.{Appends, Keeps}
+use Rattle.std.specs.Io.KnownBytes.{Appends}
 use Rattle.ifmap_io.specs.Causes.{Rose}
 use Rattle.ifmap_client_script.specs.ScriptFailures.{SendsText, WritesText}
 use Rattle.ifmap_client_script.specs.declared.outcomes.ScriptFailure.{ScriptFailure}
 use Rattle.ifmap_client_script.specs.declared.outcomes.ScriptFailure.TheVariants as failure
-use Rattle.ifmap_io.specs.Rises.{rose_since, keeps_appends}
+use Rattle.ifmap_io.specs.Rises.{rose_since}
 
 pub rose_till : (before mid now : ℕ) → Rose before mid → mid ≤ now → Rose before now
 rose_till before mid now rose later = omega arith
-
-pub keeps_front : (old new : Option (List ℕ)) → Keeps old new → (n : ℕ) × Appends old new (take n [])
-keeps_front old new k = (0, keeps_appends old new k)
 
 -- a front of the first of two texts
 front_of : (a b : List ℕ) (n : ℕ) → take (min n (length a)) (a ++ b) ≡ take n a
@@ -62,10 +59,3 @@ sends old new before after text (Err failure.LinkFault) w = absurd w
 sends old new before after text (Err failure.LinkEnded) w = absurd w
 sends old new before after text (Err failure.BadReply) w = absurd w
 sends old new before after text (Err failure.NoMemory) w = absurd w
-
--- what is written is handed on
-pub handed_on : (old mid new : Option (List ℕ)) (before between after : ℕ) (text : List ℕ) (r : Result (Unit {0}) ScriptFailure)
-    → Appends old mid text → before ≤ between → WritesText mid new between after [] r → WritesText old new before after text r
-handed_on old mid new before between after text r first later second =
-    subst (λ (t : List ℕ). WritesText old new before after t r) (append-nil text)
-    (then_second old mid new before between after text [] r first later second)

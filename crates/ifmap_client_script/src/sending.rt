@@ -1,11 +1,11 @@
 //! Writing to a sink.
-ghost use Rattle.std.specs.Prelude.{◌≤◌, ◌++◌, []};
+ghost use Rattle.std.specs.Prelude.{◌≤◌, ◌++◌};
 ghost use Rattle.ifmap_client_script.specs.ScriptFailures.{SendsText, WritesText};
 ghost use Rattle.ifmap_client_script.specs.Printing.{body_text};
 
 use crate::outcomes::ScriptFailure;
 use ifmap_elem::Many;
-use ifmap_io::Sink;
+use ifmap_io::{Sink, send_bytes};
 use std::alloc::Global;
 
 /// Writes bytes, and hands them on.
@@ -14,10 +14,10 @@ pub fn send<K: Sink>(sink: &mut K, bytes: &[u8]) -> Result<(), ScriptFailure>
         (K.faults sink.new) bytes.now result }
     ensures later { K.faults sink.old ≤ K.faults sink.new }
 {
-    match write(sink, bytes) {
-        Ok(()) => hand_on(sink),
-        Err(failure) => Err(failure),
+    if send_bytes(sink, bytes).is_err() {
+        return Err(ScriptFailure::WriteFault);
     }
+    Ok(())
 }
 
 /// Writes `=`, the length of a body, a newline and the body, and hands them on.
@@ -51,18 +51,6 @@ fn write<K: Sink>(sink: &mut K, bytes: &[u8]) -> Result<(), ScriptFailure>
     ensures later { K.faults sink.old ≤ K.faults sink.new }
 {
     if sink.write_all(bytes).is_err() {
-        return Err(ScriptFailure::WriteFault);
-    }
-    Ok(())
-}
-
-#[tactic(auto, using(ifmap_io::specs::Rises::keeps_appends, crate::proofs::Pieces::keeps_front))]
-fn hand_on<K: Sink>(sink: &mut K) -> Result<(), ScriptFailure>
-    ensures bytes { WritesText (K.held sink.old) (K.held sink.new) (K.faults sink.old)
-        (K.faults sink.new) [] result }
-    ensures later { K.faults sink.old ≤ K.faults sink.new }
-{
-    if sink.flush().is_err() {
         return Err(ScriptFailure::WriteFault);
     }
     Ok(())
