@@ -4,4 +4,3 @@ mod FitRequests
 mod Making
 mod Marks
 mod SoundDrills
-mod Writing

@@ -10,8 +10,8 @@ use crate::drills::Drill;
 use crate::laws::{drills_agree, ids_are_characters};
 use crate::progress::Progress;
 use crate::summaries::summary_text;
-use ifmap_io::Sink;
 use ifmap_io::statuses::{DONE, NO_MEMORY, WRITE_FAULT};
+use ifmap_io::{Sink, send_bytes};
 use ifmap_steps::Steps;
 use std::alloc::{AllocError as NoMemory, Global};
 use std::marker::Brand;
@@ -48,17 +48,13 @@ pub fn drill<K: Sink, P: Progress>(
 }
 
 // Writes the summary, and hands it on.
-#[tactic(auto, using(crate::proofs::Writing::whole))]
 fn write_summary<K: Sink>(text: &[u8], sink: &mut K) -> u8
     ensures { IsEnded text.now
         (side (K.held sink.old) (K.faults sink.old)) (side (K.held sink.new) (K.faults sink.new))
         result }
 {
-    match sink.write_all(text) {
-        Ok(()) => match sink.flush() {
-            Ok(()) => DONE,
-            Err(_) => WRITE_FAULT,
-        },
+    match send_bytes(sink, text) {
+        Ok(()) => DONE,
         Err(_) => WRITE_FAULT,
     }
 }
