@@ -8,7 +8,7 @@ pub returns-in-Ok : goal.returns-in-Ok
 returns-in-Ok g c =
     inl (
       refl,
-      subst (Appends (g.K.Sink.held c.args.sink.now) (g.K.Sink.held c.send.new.sink)) c.as_bytes.ensures.value
+      subst (Appends (g.K.Sink.held c.args.sink.now) (g.K.Sink.held c.send_bytes.new.sink)) c.as_bytes.ensures.value
           c.in-Ok.ensures.bytes,
     )
 
@@ -16,6 +16,7 @@ pub returns-in-Err : goal.returns-in-Err
 returns-in-Err g c =
     inr (
       refl,
-      subst (AppendsPrefix (g.K.Sink.held c.args.sink.now) (g.K.Sink.held c.send.new.sink)) c.as_bytes.ensures.value c.in-Err.ensures.bytes,
-      c.in-Err.ensures.fault.failed,
+      subst (AppendsPrefix (g.K.Sink.held c.args.sink.now) (g.K.Sink.held c.send_bytes.new.sink)) c.as_bytes.ensures.value
+          c.in-Err.ensures.bytes,
+      c.in-Err.ensures.cause.failed,
     )
