@@ -45,23 +45,10 @@ impl BookDesk {
 }
 
 impl Desk for BookDesk {
-    ghost use Rattle.std.specs.Prelude.{None};
-    ghost use Rattle.ifmap_desks.specs.Calls.{calls_if_known};
-
     type Home = ();
 
-    ghost said = { λ desk. calls_if_known desk.since desk.book };
-
     // A book counts no turns: `AnsweredByBook` says what each of them left.
-    ghost turns = { λ _. None };
-
-    ghost held = { λ desk. desk.counts.held };
-
-    ghost spent = { λ desk. desk.counts.spent };
-
-    ghost home = { λ _. tt };
-
-    ghost loan = { λ _. 0 };
+    ghost seen = { book_seen };
 
     /// Asks the book, whose turn says what it answers. The calls are told while no entry since the
     /// desk's making has gone to the base.

@@ -48,22 +48,9 @@ impl<'a, R: Wait> PassDesk<'a, R> {
 }
 
 impl<'a, R: Wait> Desk for PassDesk<'a, R> {
-    ghost use Rattle.std.specs.Prelude.{Some, map};
-    ghost use Rattle.ifmap_desks.specs.Calls.{plain_call};
-
     type Home = Hall<CoreMachine>;
 
-    ghost said = { λ desk. Some (map plain_call (view_of desk.pass.now).said) };
-
-    ghost turns = { λ desk. Some (view_of desk.pass.now).turns };
-
-    ghost held = { λ desk. desk.counts.held };
-
-    ghost spent = { λ desk. desk.counts.spent };
-
-    ghost home = { λ desk. desk.hall.now };
-
-    ghost loan = { λ desk. desk.pass.ghost_name };
+    ghost seen = { pass_seen };
 
     /// Asks the hall in turn, and may wait for it. What the pass has seen is afterwards all that the
     /// hall has seen from its opening state on, and the answer is that of the machine after it.

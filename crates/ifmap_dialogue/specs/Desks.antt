@@ -99,7 +99,7 @@ FitsAsked event (asked.Spent entries back) = back ≡ event
 FitsAsked event (asked.NoMemory back) = back ≡ event
 
 -- a desk as contracts see it: the calls that were done there, where it tells them; how many turns it took, where it counts them; how
--- many of its answers were `Held`, and how many `Spent`; and, which no call changes, what it stands in and what it borrows
+-- many of its answers were `Held`, and how many `Spent`; and, which no call changes, what it stands in and the name of what it borrows
 pub record DeskSeen (H : Type 0) : Type 0 where
   pub said : Option (List Call)
   pub turns : Option ℕ
@@ -107,11 +107,6 @@ pub record DeskSeen (H : Type 0) : Type 0 where
   pub spent : ℕ
   pub home : H
   pub loan : ℕ
-
--- a desk by its six meanings
-abbrev pub desk_seen : {K H : Type 0} → (K → Option (List Call)) → (K → Option ℕ) → (K → ℕ) → (K → ℕ) → (K → H) → (K → ℕ) → K → DeskSeen H
-desk_seen said turns held spent home loan desk =
-    record { said = said desk; turns = turns desk; held = held desk; spent = spent desk; home = home desk; loan = loan desk }
 
 -- where calls are told, they were told before, and these came after them
 abbrev pub Gains : Option (List Call) → Option (List Call) → List Call → Type 0

@@ -1,7 +1,6 @@
 //! What posts come to: bodies are read, and what they mean is asked.
 ghost use Rattle.std.specs.Prelude.{◌≡◌, ◌≤◌, ◌⊎◌, IfOk, length};
 ghost use Rattle.ifmap_http.specs.ifmap_heads.Limits.{longest_post};
-ghost use Rattle.ifmap_dialogue.specs.Desks.{desk_seen};
 ghost use Rattle.ifmap_dialogue.specs.declared.findings.Finding.TheVariants as the_finding;
 ghost use Rattle.ifmap_dialogue.specs.Findings.{FindsPost, refusal_reply};
 
@@ -27,9 +26,7 @@ pub(crate) fn consult<K: Desk, C: Clock, G: Gate>(
     body: &Many<u8>,
 ) -> Finding
     requires short { length body.now ≤ longest_post }
-    ensures { FindsPost (C.gives setting.now.clock.now)
-        (desk_seen K.said K.turns K.held K.spent K.home K.loan desk.old)
-        (desk_seen K.said K.turns K.held K.spent K.home K.loan desk.new)
+    ensures { FindsPost (C.gives setting.now.clock.now) (K.seen desk.old) (K.seen desk.new)
         (record { client = client; body = body.now; words = words.old; after = words.new })
         result }
 {

@@ -1,6 +1,6 @@
 //! Desks, at which events are asked, and gates, which are passed on the way.
-ghost use Rattle.std.specs.Prelude.{◌≡◌, ◌≤◌, ◌∷◌, ℕ, List, [], Option};
-ghost use Rattle.ifmap_dialogue.specs.Desks.{Call, DeskTakesTurns, desk_seen, greatest_weight, weight};
+ghost use Rattle.std.specs.Prelude.{◌≤◌, ◌∷◌, []};
+ghost use Rattle.ifmap_dialogue.specs.Desks.{DeskSeen, DeskTakesTurns, greatest_weight, weight};
 
 use ifmap_hall::Asked;
 use ifmap_machine::{Answer, Event, Reply};
@@ -10,32 +10,17 @@ pub trait Desk {
     /// What the desk stands in.
     type Home;
 
-    /// The calls that were done, where they are told.
-    ghost said: { Self → Option (List Call) };
-
-    /// How many turns it took, where it counts them: one for each ask.
-    ghost turns: { Self → Option ℕ };
-
-    /// How many of its answers were `Held`.
-    ghost held: { Self → ℕ };
-
-    /// How many of its answers were `Spent`.
-    ghost spent: { Self → ℕ };
-
-    /// What it stands in, which no call changes.
-    ghost home: { Self → Self.Home };
-
-    /// The name of what it borrows, which no call changes.
-    ghost loan: { Self → ℕ };
+    /// The calls that were done, where they are told; how many turns it took, where it counts them:
+    /// one for each ask; how many of its answers were `Held`, and how many `Spent`; and, which no call
+    /// changes, what it stands in and the name of what it borrows.
+    ghost seen: { Self → DeskSeen Self.Home };
 
     /// Asks an event of at most 80,001,000 bytes of weight. Every answer but `Done` hands the event
     /// back. What is held is a poll, and what a poll is told is told to a poll alone; `Heard` answers
     /// the event that tells of a lost answer, and nothing else.
     fn ask(&mut self, event: Event) -> Asked<Event, Answer>
         requires light { weight event ≤ greatest_weight }
-        ensures tells { DeskTakesTurns
-            (desk_seen said turns held spent home loan self.old)
-            (desk_seen said turns held spent home loan self.new)
+        ensures tells { DeskTakesTurns (seen self.old) (seen self.new)
             (record { event = event; asked = result } ∷ []) };
 }
 

@@ -5,7 +5,7 @@ ghost use Rattle.ifmap_http.specs.ifmap_heads.Limits.{longest_post};
 ghost use Rattle.ifmap_machine.specs.ifmap_requests.Fit.{IsFitRequest};
 ghost use Rattle.ifmap_machine.specs.ifmap_requests.declared.requests.Request.TheVariants.{Poll as Polling};
 ghost use Rattle.ifmap_dialogue.specs.Answers.{ending_heard};
-ghost use Rattle.ifmap_dialogue.specs.Desks.{DeskTakesTurns, Turn, desk_seen, greatest_weight, outcome_of, weight};
+ghost use Rattle.ifmap_dialogue.specs.Desks.{DeskTakesTurns, Turn, greatest_weight, outcome_of, weight};
 ghost use Rattle.ifmap_dialogue.specs.Findings.{FindsQuestion, FindsRequest, finding_of, own_request};
 ghost use Rattle.ifmap_dialogue.specs.Turns.{AsksLost, IsFirstPoll, event_of_question, question_of};
 ghost use Rattle.ifmap_dialogue.specs.Words.{after_random, random_word};
@@ -38,8 +38,7 @@ pub const MOST_TURNS: u32 = 36_000;
 pub(crate) fn take_turn<K: Desk, G: Gate>(desk: &mut K, gate: &mut G, event: Event) -> AskOutcome
     requires light { weight event ≤ greatest_weight }
     ensures { (turn : Turn) × (turn.event ≡ event) × (result ≡ outcome_of turn.asked)
-        × DeskTakesTurns (desk_seen K.said K.turns K.held K.spent K.home K.loan desk.old)
-        (desk_seen K.said K.turns K.held K.spent K.home K.loan desk.new) (turn ∷ []) }
+        × DeskTakesTurns (K.seen desk.old) (K.seen desk.new) (turn ∷ []) }
 {
     gate.pass(BEFORE_ASK);
     outcome_of(desk.ask(event))
@@ -72,9 +71,7 @@ pub(crate) fn ask_request<K: Desk, C: Clock, G: Gate>(
 ) -> Finding
     requires fit { IsFitRequest request }
     requires short { asker.bytes ≤ longest_post }
-    ensures { FindsRequest (C.gives setting.now.clock.now)
-        (desk_seen K.said K.turns K.held K.spent K.home K.loan desk.old)
-        (desk_seen K.said K.turns K.held K.spent K.home K.loan desk.new)
+    ensures { FindsRequest (C.gives setting.now.clock.now) (K.seen desk.old) (K.seen desk.new)
         (own_request asker.client asker.bytes request words.old words.new) result }
 {
     match request {
@@ -122,9 +119,7 @@ fn ask_once<K: Desk, C: Clock, G: Gate>(
     requires fit { IsFitRequest request }
     requires short { asker.bytes ≤ longest_post }
     requires other { (session : List ℕ) → request ≢ Polling session }
-    ensures { FindsRequest (C.gives setting.now.clock.now)
-        (desk_seen K.said K.turns K.held K.spent K.home K.loan desk.old)
-        (desk_seen K.said K.turns K.held K.spent K.home K.loan desk.new)
+    ensures { FindsRequest (C.gives setting.now.clock.now) (K.seen desk.old) (K.seen desk.new)
         (own_request asker.client asker.bytes request words.old words.new) result }
 {
     let Asker { client, bytes } = asker;
@@ -150,9 +145,7 @@ fn ask_poll<K: Desk, C: Clock, G: Gate>(
 ) -> Finding
     requires fit { IsCharacters session }
     requires short { asker.bytes ≤ longest_post }
-    ensures { FindsRequest (C.gives setting.now.clock.now)
-        (desk_seen K.said K.turns K.held K.spent K.home K.loan desk.old)
-        (desk_seen K.said K.turns K.held K.spent K.home K.loan desk.new)
+    ensures { FindsRequest (C.gives setting.now.clock.now) (K.seen desk.old) (K.seen desk.new)
         (own_request asker.client asker.bytes (Polling session) words.old words.new) result }
 {
     match begin_poll(setting, words, asker, session) {
@@ -206,9 +199,8 @@ fn await_reply<K: Desk, C: Clock, G: Gate>(
     requires fit { IsCharacters poll.session }
     requires short { poll.bytes ≤ longest_post }
     requires first { IsFirstPoll (C.gives setting.now.clock.now) poll first }
-    ensures { FindsQuestion (C.gives setting.now.clock.now)
-        (desk_seen K.said K.turns K.held K.spent K.home K.loan desk.old)
-        (desk_seen K.said K.turns K.held K.spent K.home K.loan desk.new) (question_of poll) result }
+    ensures { FindsQuestion (C.gives setting.now.clock.now) (K.seen desk.old) (K.seen desk.new)
+        (question_of poll) result }
 {
     let mut event = first;
     let mut turns = 0;
@@ -253,8 +245,7 @@ pub(crate) fn tell_lost<K: Desk, C: Clock, G: Gate>(
 ) -> Ending
     requires fit { IsCharacters poll.session }
     ensures { (turn : Turn) × AsksLost (C.gives setting.now.clock.now) poll turn
-        × DeskTakesTurns (desk_seen K.said K.turns K.held K.spent K.home K.loan desk.old)
-        (desk_seen K.said K.turns K.held K.spent K.home K.loan desk.new) (turn ∷ [])
+        × DeskTakesTurns (K.seen desk.old) (K.seen desk.new) (turn ∷ [])
         × (result ≡ ending_heard due (outcome_of turn.asked)) }
 {
     ending_heard(due, take_turn(desk, gate, poll.lost_event(setting)))

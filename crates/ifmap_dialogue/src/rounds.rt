@@ -5,7 +5,7 @@ ghost use Rattle.ifmap_elem.specs.Chars.{IsCharacters};
 ghost use Rattle.ifmap_http.specs.ifmap_heads.Limits.{longest_post};
 ghost use Rattle.ifmap_http.specs.Wires.{wire_seen};
 ghost use Rattle.ifmap_dialogue.specs.Answers.{LosesUnlessDone, closes};
-ghost use Rattle.ifmap_dialogue.specs.Desks.{DeskTakesTurns, Turn, desk_seen};
+ghost use Rattle.ifmap_dialogue.specs.Desks.{DeskTakesTurns, Turn};
 ghost use Rattle.ifmap_dialogue.specs.Rounds.{is_last_post, most_posts};
 ghost use Rattle.ifmap_dialogue.specs.Scenes.{HasFitPoll, ServesAnswer, ServesPost, ServesRound, scene};
 
@@ -38,9 +38,9 @@ pub(crate) fn serve_round<K: Desk, L: Link, C: Clock, G: Gate>(
 ) -> Option<Ending>
     requires { IsFalse wire.old.spent }
     ensures serves { ServesRound (C.gives setting.now.clock.now) number
-        (scene (desk_seen K.said K.turns K.held K.spent K.home K.loan desk.old)
+        (scene (K.seen desk.old)
         (wire_seen L.left L.held L.Source.faults L.Sink.faults wire.old) words.old)
-        (scene (desk_seen K.said K.turns K.held K.spent K.home K.loan desk.new)
+        (scene (K.seen desk.new)
         (wire_seen L.left L.held L.Source.faults L.Sink.faults wire.new) words.new) result }
     ensures more { IfNone result (IsFalse wire.new.spent × (number ≢ most_posts)) }
 {
@@ -90,9 +90,9 @@ fn answer_post<K: Desk, L: Link, C: Clock, G: Gate>(
 ) -> Option<Ending>
     requires short { length post.body ≤ longest_post }
     ensures { ServesPost (C.gives setting.now.clock.now)
-        (scene (desk_seen K.said K.turns K.held K.spent K.home K.loan desk.old)
+        (scene (K.seen desk.old)
         (wire_seen L.left L.held L.Source.faults L.Sink.faults wire.old) words.old)
-        (scene (desk_seen K.said K.turns K.held K.spent K.home K.loan desk.new)
+        (scene (K.seen desk.new)
         (wire_seen L.left L.held L.Source.faults L.Sink.faults wire.new) words.new)
         post result }
 {
@@ -125,9 +125,9 @@ fn answer<K: Desk, L: Link, C: Clock, G: Gate>(
 ) -> Option<Ending>
     requires fit { HasFitPoll finding }
     ensures { (words : ChaCha) → ServesAnswer (C.gives setting.now.clock.now)
-        (scene (desk_seen K.said K.turns K.held K.spent K.home K.loan desk.old)
+        (scene (K.seen desk.old)
         (wire_seen L.left L.held L.Source.faults L.Sink.faults wire.old) words)
-        (scene (desk_seen K.said K.turns K.held K.spent K.home K.loan desk.new)
+        (scene (K.seen desk.new)
         (wire_seen L.left L.held L.Source.faults L.Sink.faults wire.new) words)
         (record { finding = finding; close = closes then; next = result }) }
 {
@@ -167,8 +167,7 @@ fn conclude<K: Desk, C: Clock, G: Gate>(
 ) -> Option<Ending>
     requires fit { IsCharacters poll.session }
     ensures { (turns : List Turn)
-        × DeskTakesTurns (desk_seen K.said K.turns K.held K.spent K.home K.loan desk.old)
-        (desk_seen K.said K.turns K.held K.spent K.home K.loan desk.new) turns
+        × DeskTakesTurns (K.seen desk.old) (K.seen desk.new) turns
         × LosesUnlessDone (C.gives setting.now.clock.now) poll (closes then) sent turns
         result }
 {

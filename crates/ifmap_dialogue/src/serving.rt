@@ -1,7 +1,6 @@
 //! Connections, served to their end.
 ghost use Rattle.std.specs.Prelude.{IsFalse};
 ghost use Rattle.ifmap_http.specs.Wires.{wire_seen};
-ghost use Rattle.ifmap_dialogue.specs.Desks.{desk_seen};
 ghost use Rattle.ifmap_dialogue.specs.Dialogue.{Serves};
 ghost use Rattle.ifmap_dialogue.specs.Scenes.{scene};
 
@@ -29,9 +28,9 @@ pub fn serve_connection<K: Desk, L: Link, C: Clock, G: Gate>(
 ) -> Ending
     requires { IsFalse wire.old.spent }
     ensures { Serves (C.gives clock.now)
-        (scene (desk_seen K.said K.turns K.held K.spent K.home K.loan desk.old)
+        (scene (K.seen desk.old)
         (wire_seen L.left L.held L.Source.faults L.Sink.faults wire.old) words.old)
-        (scene (desk_seen K.said K.turns K.held K.spent K.home K.loan desk.new)
+        (scene (K.seen desk.new)
         (wire_seen L.left L.held L.Source.faults L.Sink.faults wire.new) words.new) result }
 {
     let setting = Setting { alloc, clock };

@@ -134,17 +134,14 @@ impl Desk for PlainDesk {
 
     type Home = ();
 
-    ghost said = { λ _. None };
-
-    ghost turns = { λ _. None };
-
-    ghost held = { λ desk. desk.held };
-
-    ghost spent = { λ desk. desk.spent };
-
-    ghost home = { λ _. tt };
-
-    ghost loan = { λ _. 0 };
+    ghost seen = { λ desk. record {
+      said = None;
+      turns = None;
+      held = desk.held;
+      spent = desk.spent;
+      home = tt;
+      loan = 0;
+    } };
 
     fn ask(&mut self, event: Event) -> Asked<Event, Answer> {
         let kind = kind_of(&event.ask);

@@ -1,5 +1,4 @@
 //! Work at a door: its connections are served one after another.
-ghost use Rattle.ifmap_desks.specs.ifmap_dialogue.Desks.{desk_seen};
 ghost use Rattle.ifmap_io.specs.Links.{wire_link_seen};
 ghost use Rattle.ifmap_serving.specs.Connections.{ServesLink, worker};
 ghost use Rattle.ifmap_serving.specs.Works.{IsWorkStatus, Works, door_seen};
@@ -26,8 +25,7 @@ pub fn work<R: Wait, K: Desk, D: Door, C: Clock, G: Gate>(
     gate: &mut G,
 ) -> u8
     ensures works { Works (C.gives clock.now)
-        (worker (desk_seen K.said K.turns K.held K.spent K.home K.loan desk.old) words.old)
-        (worker (desk_seen K.said K.turns K.held K.spent K.home K.loan desk.new) words.new)
+        (worker (K.seen desk.old) words.old) (worker (K.seen desk.new) words.new)
         (door_seen D.links D.faults door.old) (door_seen D.links D.faults door.new) }
     ensures ends { IsWorkStatus
         (door_seen D.links D.faults door.old) (door_seen D.links D.faults door.new) result }
@@ -55,8 +53,7 @@ fn serve_link<K: Desk, L: Link, C: Clock, G: Gate>(
     gate: &mut G,
 ) -> L
     ensures { ServesLink (C.gives clock.now)
-        (worker (desk_seen K.said K.turns K.held K.spent K.home K.loan desk.old) words.old)
-        (worker (desk_seen K.said K.turns K.held K.spent K.home K.loan desk.new) words.new)
+        (worker (K.seen desk.old) words.old) (worker (K.seen desk.new) words.new)
         (wire_link_seen L.left L.held L.Source.faults L.Sink.faults link)
         (wire_link_seen L.left L.held L.Source.faults L.Sink.faults result) }
 {

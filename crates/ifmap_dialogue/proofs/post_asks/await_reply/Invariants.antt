@@ -1,14 +1,11 @@
 use Rattle.std.proofs.Common.{◌-◌}
-use Rattle.ifmap_dialogue.specs.Desks.{desk_seen}
 use Rattle.ifmap_dialogue.specs.Turns.{most_turns, question_of}
 use Rattle.ifmap_dialogue.proofs.Turning.{Waits}
 use Rattle.ifmap_dialogue.proofs.post_asks.await_reply.Given as goal
 
 abbrev pub invariant-turns : goal.invariant-turns
 invariant-turns g l =
-    Waits (g.C.Clock.gives l.setting.clock.now)
-    (desk_seen g.K.Desk.said g.K.Desk.turns g.K.Desk.held g.K.Desk.spent g.K.Desk.home g.K.Desk.loan l.initial.desk)
-    (desk_seen g.K.Desk.said g.K.Desk.turns g.K.Desk.held g.K.Desk.spent g.K.Desk.home g.K.Desk.loan l.desk)
+    Waits (g.C.Clock.gives l.setting.clock.now) (g.K.Desk.seen l.initial.desk) (g.K.Desk.seen l.desk)
     (question_of l.poll) l.turns l.event
 
 abbrev pub decreases-turns : goal.decreases-turns

@@ -1,6 +1,5 @@
 use Rattle.std.proofs.Common.{◌-◌}
 use Rattle.ifmap_http.specs.Wires.{wire_seen}
-use Rattle.ifmap_dialogue.specs.Desks.{desk_seen}
 use Rattle.ifmap_dialogue.specs.Rounds.{most_posts}
 use Rattle.ifmap_dialogue.specs.Scenes.{scene}
 use Rattle.ifmap_dialogue.proofs.Connecting.{Connects}
@@ -9,11 +8,9 @@ use Rattle.ifmap_dialogue.proofs.serving.serve_connection.Given as goal
 abbrev pub invariant-posts : goal.invariant-posts
 invariant-posts g l =
     Connects (g.C.Clock.gives l.setting.clock.now)
-    (scene
-    (desk_seen g.K.Desk.said g.K.Desk.turns g.K.Desk.held g.K.Desk.spent g.K.Desk.home g.K.Desk.loan l.initial.desk)
+    (scene (g.K.Desk.seen l.initial.desk)
     (wire_seen g.L.Source.left g.L.Sink.held g.L.Source.faults g.L.Sink.faults l.initial.wire) l.initial.words)
-    (scene
-    (desk_seen g.K.Desk.said g.K.Desk.turns g.K.Desk.held g.K.Desk.spent g.K.Desk.home g.K.Desk.loan l.desk)
+    (scene (g.K.Desk.seen l.desk)
     (wire_seen g.L.Source.left g.L.Sink.held g.L.Source.faults g.L.Sink.faults l.wire) l.words) l.number
 
 abbrev pub decreases-posts : goal.decreases-posts
