@@ -57,7 +57,7 @@ book_at desk = desk.book
 abbrev pub pass_at : BookDesk → ℕ
 pass_at desk = desk.pass
 
--- what contracts see of a desk over a book
+-- what contracts see of a desk over a book, which counts no turns: `AnsweredByBook` says what each of them left
 abbrev pub book_seen : BookDesk → DeskSeen (Unit {0})
 book_seen desk = record {
   said = calls_if_known desk.since desk.book;

@@ -47,7 +47,6 @@ impl BookDesk {
 impl Desk for BookDesk {
     type Home = ();
 
-    // A book counts no turns: `AnsweredByBook` says what each of them left.
     ghost seen = { book_seen };
 
     /// Asks the book, whose turn says what it answers. The calls are told while no entry since the
