@@ -37,11 +37,10 @@ pub(crate) fn serve_round<K: Desk, L: Link, C: Clock, G: Gate>(
     number: u32,
 ) -> Option<Ending>
     requires { IsFalse wire.old.spent }
-    ensures serves { ServesRound (C.gives setting.now.clock.now) number
-        (scene (K.seen desk.old)
-        (wire_seen L.left L.held L.Source.faults L.Sink.faults wire.old) words.old)
-        (scene (K.seen desk.new)
-        (wire_seen L.left L.held L.Source.faults L.Sink.faults wire.new) words.new) result }
+    ensures serves { let seen = wire_seen L.left L.held L.Source.faults L.Sink.faults in
+        ServesRound (C.gives setting.now.clock.now) number
+        (scene (K.seen desk.old) (seen wire.old) words.old)
+        (scene (K.seen desk.new) (seen wire.new) words.new) result }
     ensures more { IfNone result (IsFalse wire.new.spent × (number ≢ most_posts)) }
 {
     match wire.read_post(setting.alloc) {
@@ -89,12 +88,10 @@ fn answer_post<K: Desk, L: Link, C: Clock, G: Gate>(
     post: Post,
 ) -> Option<Ending>
     requires short { length post.body ≤ longest_post }
-    ensures { ServesPost (C.gives setting.now.clock.now)
-        (scene (K.seen desk.old)
-        (wire_seen L.left L.held L.Source.faults L.Sink.faults wire.old) words.old)
-        (scene (K.seen desk.new)
-        (wire_seen L.left L.held L.Source.faults L.Sink.faults wire.new) words.new)
-        post result }
+    ensures { let seen = wire_seen L.left L.held L.Source.faults L.Sink.faults in
+        ServesPost (C.gives setting.now.clock.now)
+        (scene (K.seen desk.old) (seen wire.old) words.old)
+        (scene (K.seen desk.new) (seen wire.new) words.new) post result }
 {
     let then = after_post(&post);
     let Post {
@@ -124,11 +121,10 @@ fn answer<K: Desk, L: Link, C: Clock, G: Gate>(
     then: Then,
 ) -> Option<Ending>
     requires fit { HasFitPoll finding }
-    ensures { (words : ChaCha) → ServesAnswer (C.gives setting.now.clock.now)
-        (scene (K.seen desk.old)
-        (wire_seen L.left L.held L.Source.faults L.Sink.faults wire.old) words)
-        (scene (K.seen desk.new)
-        (wire_seen L.left L.held L.Source.faults L.Sink.faults wire.new) words)
+    ensures { let seen = wire_seen L.left L.held L.Source.faults L.Sink.faults in
+        (words : ChaCha) → ServesAnswer (C.gives setting.now.clock.now)
+        (scene (K.seen desk.old) (seen wire.old) words)
+        (scene (K.seen desk.new) (seen wire.new) words)
         (record { finding = finding; close = closes then; next = result }) }
 {
     match finding {

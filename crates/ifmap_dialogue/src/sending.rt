@@ -39,10 +39,9 @@ pub(crate) fn send_reply<L: Link, G: Gate>(
     reply: &Reply,
     then: Then,
 ) -> Sent
-    ensures writes { (output : List ℕ) × WritesAnswer (reply_answer reply.now (closes then))
-        result output
-        × GainsBytes (wire_seen L.left L.held L.Source.faults L.Sink.faults wire.old)
-        (wire_seen L.left L.held L.Source.faults L.Sink.faults wire.new) output }
+    ensures writes { let seen = wire_seen L.left L.held L.Source.faults L.Sink.faults in
+        (output : List ℕ) × WritesAnswer (reply_answer reply.now (closes then)) result output
+        × GainsBytes (seen wire.old) (seen wire.new) output }
     ensures fault { result ≡ Sent.WriteFault
         → Rose (L.Sink.faults wire.old.link) (L.Sink.faults wire.new.link) }
 {
@@ -63,9 +62,9 @@ pub(crate) fn send_bare<L: Link, G: Gate>(
     status: u16,
 ) -> Sent
     requires { IsTrue (is_answer_status status) }
-    ensures writes { (output : List ℕ) × WritesAnswer (bare_answer status) result output
-        × GainsBytes (wire_seen L.left L.held L.Source.faults L.Sink.faults wire.old)
-        (wire_seen L.left L.held L.Source.faults L.Sink.faults wire.new) output }
+    ensures writes { let seen = wire_seen L.left L.held L.Source.faults L.Sink.faults in
+        (output : List ℕ) × WritesAnswer (bare_answer status) result output
+        × GainsBytes (seen wire.old) (seen wire.new) output }
     ensures fault { result ≡ Sent.WriteFault
         → Rose (L.Sink.faults wire.old.link) (L.Sink.faults wire.new.link) }
 {
@@ -82,10 +81,9 @@ fn send<L: Link, G: Gate>(
     then: Then,
 ) -> Sent
     requires { IsTrue (is_answer_status status) }
-    ensures writes { (output : List ℕ) × WritesAnswer
-        (answer_bytes status body.now (closes then)) result
-        output × GainsBytes (wire_seen L.left L.held L.Source.faults L.Sink.faults wire.old)
-        (wire_seen L.left L.held L.Source.faults L.Sink.faults wire.new) output }
+    ensures writes { let seen = wire_seen L.left L.held L.Source.faults L.Sink.faults in
+        (output : List ℕ) × WritesAnswer (answer_bytes status body.now (closes then)) result output
+        × GainsBytes (seen wire.old) (seen wire.new) output }
     ensures fault { result ≡ Sent.WriteFault
         → Rose (L.Sink.faults wire.old.link) (L.Sink.faults wire.new.link) }
 {
@@ -101,9 +99,9 @@ fn send<L: Link, G: Gate>(
 
 // Answers that memory is wanting, as far as can be.
 pub(crate) fn give_up<L: Link, G: Gate>(alloc: Global, wire: &mut Wire<L>, gate: &mut G)
-    ensures { (output : List ℕ) × IsNoMemoryOutput output
-        × GainsBytes (wire_seen L.left L.held L.Source.faults L.Sink.faults wire.old)
-        (wire_seen L.left L.held L.Source.faults L.Sink.faults wire.new) output }
+    ensures { let seen = wire_seen L.left L.held L.Source.faults L.Sink.faults in
+        (output : List ℕ) × IsNoMemoryOutput output
+        × GainsBytes (seen wire.old) (seen wire.new) output }
 {
     let _sent = write(alloc, wire, gate, SERVICE_UNAVAILABLE, b"", Then::Close);
 }
@@ -118,9 +116,9 @@ fn write<L: Link, G: Gate>(
     then: Then,
 ) -> Sent
     requires { IsTrue (is_answer_status status) }
-    ensures writes { (output : List ℕ) × WritesOnce (answer_bytes status body.now (closes then))
-        result output × GainsBytes (wire_seen L.left L.held L.Source.faults L.Sink.faults wire.old)
-        (wire_seen L.left L.held L.Source.faults L.Sink.faults wire.new) output }
+    ensures writes { let seen = wire_seen L.left L.held L.Source.faults L.Sink.faults in
+        (output : List ℕ) × WritesOnce (answer_bytes status body.now (closes then)) result output
+        × GainsBytes (seen wire.old) (seen wire.new) output }
     ensures fault { result ≡ Sent.WriteFault
         → Rose (L.Sink.faults wire.old.link) (L.Sink.faults wire.new.link) }
 {

@@ -27,11 +27,9 @@ pub fn serve_connection<K: Desk, L: Link, C: Clock, G: Gate>(
     gate: &mut G,
 ) -> Ending
     requires { IsFalse wire.old.spent }
-    ensures { Serves (C.gives clock.now)
-        (scene (K.seen desk.old)
-        (wire_seen L.left L.held L.Source.faults L.Sink.faults wire.old) words.old)
-        (scene (K.seen desk.new)
-        (wire_seen L.left L.held L.Source.faults L.Sink.faults wire.new) words.new) result }
+    ensures { let seen = wire_seen L.left L.held L.Source.faults L.Sink.faults in
+        Serves (C.gives clock.now) (scene (K.seen desk.old) (seen wire.old) words.old)
+        (scene (K.seen desk.new) (seen wire.new) words.new) result }
 {
     let setting = Setting { alloc, clock };
     let mut number = 1;

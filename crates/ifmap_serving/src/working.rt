@@ -52,10 +52,9 @@ fn serve_link<K: Desk, L: Link, C: Clock, G: Gate>(
     words: &mut ChaCha20Rng,
     gate: &mut G,
 ) -> L
-    ensures { ServesLink (C.gives clock.now)
-        (worker (K.seen desk.old) words.old) (worker (K.seen desk.new) words.new)
-        (wire_link_seen L.left L.held L.Source.faults L.Sink.faults link)
-        (wire_link_seen L.left L.held L.Source.faults L.Sink.faults result) }
+    ensures { let seen = wire_link_seen L.left L.held L.Source.faults L.Sink.faults in
+        ServesLink (C.gives clock.now) (worker (K.seen desk.old) words.old)
+        (worker (K.seen desk.new) words.new) (seen link) (seen result) }
 {
     let mut wire = Wire::new(alloc, link);
     serve_connection(alloc, desk, &mut wire, clock, words, gate);
