@@ -38,12 +38,10 @@ pub fn ask<L: Link>(
 ) -> Result<ReadReply, ScriptFailure>
     requires unspent { IsFalse wire.old.spent }
     requires visible { IsTrue (is_visible caller.now.host) }
-    ensures asks { AsksOnWire caller.now request.now
-        (wire_seen L.left L.held L.Source.faults L.Sink.faults wire.old)
-        (wire_seen L.left L.held L.Source.faults L.Sink.faults wire.new) result }
-    ensures later { IsLaterWire
-        (wire_seen L.left L.held L.Source.faults L.Sink.faults wire.old)
-        (wire_seen L.left L.held L.Source.faults L.Sink.faults wire.new) }
+    ensures asks { let seen = wire_seen L.left L.held L.Source.faults L.Sink.faults in
+        AsksOnWire caller.now request.now (seen wire.old) (seen wire.new) result }
+    ensures later { let seen = wire_seen L.left L.held L.Source.faults L.Sink.faults in
+        IsLaterWire (seen wire.old) (seen wire.new) }
 {
     match post(alloc, caller, request, wire) {
         Ok(()) => receive(alloc, wire),
@@ -54,12 +52,10 @@ pub fn ask<L: Link>(
 // Takes an answer.
 fn receive<L: Link>(alloc: Global, wire: &mut Wire<L>) -> Result<ReadReply, ScriptFailure>
     requires { IsFalse wire.old.spent }
-    ensures hears { Hears
-        (wire_seen L.left L.held L.Source.faults L.Sink.faults wire.old)
-        (wire_seen L.left L.held L.Source.faults L.Sink.faults wire.new) result }
-    ensures unwritten { Unwritten
-        (wire_seen L.left L.held L.Source.faults L.Sink.faults wire.old)
-        (wire_seen L.left L.held L.Source.faults L.Sink.faults wire.new) }
+    ensures hears { let seen = wire_seen L.left L.held L.Source.faults L.Sink.faults in
+        Hears (seen wire.old) (seen wire.new) result }
+    ensures unwritten { let seen = wire_seen L.left L.held L.Source.faults L.Sink.faults in
+        Unwritten (seen wire.old) (seen wire.new) }
 {
     match read_body(alloc, wire) {
         Ok(body) => reply_with_body(alloc, body),
@@ -85,12 +81,10 @@ fn post<L: Link>(
     wire: &mut Wire<L>,
 ) -> Result<(), ScriptFailure>
     requires { IsTrue (is_visible caller.now.host) }
-    ensures posts { Posts (request_post caller.now request.now)
-        (wire_seen L.left L.held L.Source.faults L.Sink.faults wire.old)
-        (wire_seen L.left L.held L.Source.faults L.Sink.faults wire.new) result }
-    ensures unread { ReadingStands
-        (wire_seen L.left L.held L.Source.faults L.Sink.faults wire.old)
-        (wire_seen L.left L.held L.Source.faults L.Sink.faults wire.new) }
+    ensures posts { let seen = wire_seen L.left L.held L.Source.faults L.Sink.faults in
+        Posts (request_post caller.now request.now) (seen wire.old) (seen wire.new) result }
+    ensures unread { let seen = wire_seen L.left L.held L.Source.faults L.Sink.faults in
+        ReadingStands (seen wire.old) (seen wire.new) }
 {
     let body = write_request(alloc, request)?;
     match wire.send_post(alloc, &caller.host, &caller.client, body.as_slice()) {
@@ -103,12 +97,10 @@ fn post<L: Link>(
 // Takes the body of an answer.
 fn read_body<L: Link>(alloc: Global, wire: &mut Wire<L>) -> Result<Many<u8>, ScriptFailure>
     requires { IsFalse wire.old.spent }
-    ensures receives { Receives
-        (wire_seen L.left L.held L.Source.faults L.Sink.faults wire.old)
-        (wire_seen L.left L.held L.Source.faults L.Sink.faults wire.new) result }
-    ensures unwritten { Unwritten
-        (wire_seen L.left L.held L.Source.faults L.Sink.faults wire.old)
-        (wire_seen L.left L.held L.Source.faults L.Sink.faults wire.new) }
+    ensures receives { let seen = wire_seen L.left L.held L.Source.faults L.Sink.faults in
+        Receives (seen wire.old) (seen wire.new) result }
+    ensures unwritten { let seen = wire_seen L.left L.held L.Source.faults L.Sink.faults in
+        Unwritten (seen wire.old) (seen wire.new) }
 {
     match wire.read_answer(alloc) {
         Answered::Body(body) => Ok(body),

@@ -87,15 +87,14 @@ fn carry_out<S: Source, K: Sink, A: Link, B: Link>(
 ) -> Outcome
     requires first { IsFalse first.old.spent }
     requires second { IsFalse second.old.spent }
-    ensures { IsCarriedOut (record { client = to.now.client; host = to.now.host })
+    ensures { let seen = wire_seen A.left A.held A.Source.faults A.Sink.faults in
+        let polls_seen = wire_seen B.left B.held B.Source.faults B.Sink.faults in
+        IsCarriedOut (record { client = to.now.client; host = to.now.host })
         (source_and_ports (S.left source.old) (S.faults source.old)
-        (ports (K.held sink.old) (K.faults sink.old)
-        (wire_seen A.left A.held A.Source.faults A.Sink.faults first.old)
-        (wire_seen B.left B.held B.Source.faults B.Sink.faults second.old)))
+        (ports (K.held sink.old) (K.faults sink.old) (seen first.old) (polls_seen second.old)))
         (source_and_ports (S.left source.new) (S.faults source.new)
-        (ports (K.held sink.new) (K.faults sink.new)
-        (wire_seen A.left A.held A.Source.faults A.Sink.faults first.new)
-        (wire_seen B.left B.held B.Source.faults B.Sink.faults second.new))) result }
+        (ports (K.held sink.new) (K.faults sink.new) (seen first.new) (polls_seen second.new)))
+        result }
 {
     run_script(alloc, &to.client, &to.host, source, sink, first, second)
 }
