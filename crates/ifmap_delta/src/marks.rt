@@ -2,7 +2,7 @@
 ghost use Rattle.std.specs.Prelude.{◌≡◌, ℕ, Option};
 ghost use Rattle.ifmap_region.specs.Marks.{mark_of, mark_over};
 
-use ifmap_region::{Patch, Region};
+use ifmap_region::{Patch, PatchedMark, Region};
 
 // The depth of each number that walks reach.
 pub(crate) trait Marks {
@@ -44,8 +44,9 @@ impl<'a> Marks for Patched<'a> {
 pub(crate) fn mark_after(region: &Region, patch: &Patch, number: u64) -> Option<u32>
     ensures { result ≡ mark_over patch.now (mark_of region.now.marks.entries) number }
 {
-    match patch.row(number) {
-        Some(mark) => mark,
-        None => region.mark(number),
+    match patch.mark(number) {
+        PatchedMark::Untouched => region.mark(number),
+        PatchedMark::Cleared => None,
+        PatchedMark::Marked(mark) => Some(mark),
     }
 }

@@ -1,10 +1,18 @@
 -- Marks: the rows of a map from numbers to depths, where a row may stand without a mark.
 use Rattle.std.specs.Prelude.{◌≡◌, ℕ, Option, Some, None, List, nat_eq, unwrap_or, IsSome, ◌⊎◌}
 use Rattle.std.specs.Map.{lookup, update}
+use Rattle.ifmap_region.specs.declared.patch.PatchedMark.{PatchedMark}
+use Rattle.ifmap_region.specs.declared.patch.PatchedMark.TheVariants.{Untouched, Cleared, Marked}
 
 -- the row of a number: none, or one that holds a mark or holds none
 abbrev pub row_of : List (ℕ × Option ℕ) → ℕ → Option (Option ℕ)
 row_of rows v = lookup (nat_eq v) rows
+
+-- the row that a patch has for a number of which it says this: none where it says nothing
+abbrev pub row_told : PatchedMark → Option (Option ℕ)
+row_told Untouched = None
+row_told Cleared = Some None
+row_told (Marked mark) = Some (Some mark)
 
 -- the mark of a number, where its row holds one
 abbrev pub mark_of : List (ℕ × Option ℕ) → ℕ → Option ℕ

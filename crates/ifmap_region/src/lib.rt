@@ -19,6 +19,6 @@ mod ways;
 
 pub use flips::Flip;
 pub use link_source::LinkSource;
-pub use patch::{MarkChange, Patch, RegionUndo};
+pub use patch::{MarkChange, Patch, PatchedMark, RegionUndo};
 pub use region::{Region, build};
 pub use repairing::repair;

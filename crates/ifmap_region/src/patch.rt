@@ -2,7 +2,7 @@
 ghost use Rattle.std.specs.Prelude.{◌≡◌, ◌≢◌, ℕ, ◌≤◌, Option, Some, true, false, ◌↔◌, IsTrue, IfOk, IfSome, IfNone, length, slice_get, nat_eq};
 ghost use Rattle.std.specs.List.{IsDistinct};
 ghost use Rattle.std.specs.Map.{keys_of};
-ghost use Rattle.ifmap_region.specs.Marks.{mark_of, row_of};
+ghost use Rattle.ifmap_region.specs.Marks.{mark_of, row_of, row_told};
 
 use crate::rows::{MarkRows, mark_in, put};
 use indexmap::IndexMap;
@@ -16,6 +16,17 @@ pub struct MarkChange {
     pub number: u64,
     /// Its new mark; `None` where the mark goes.
     pub mark: Option<u32>,
+}
+
+/// What a patch says of the mark of a number.
+#[derive(Clone, Copy, Debug, PartialEq, Eq)]
+pub enum PatchedMark {
+    /// Nothing: the number keeps the mark that it has, if any.
+    Untouched,
+    /// Its mark goes.
+    Cleared,
+    /// It gets this mark.
+    Marked(u32),
 }
 
 /// A change of the marks of a region: the new mark of each number whose mark comes or changes, and
@@ -65,13 +76,26 @@ impl Patch {
         }
     }
 
-    /// The new mark of a number, where the patch has one for it.
-    pub fn row(&self, number: u64) -> Option<Option<u32>>
-        ensures row { result ≡ row_of self.now number }
-        ensures at { IfSome result (λ mark. (i : ℕ)
+    /// What the patch says of the mark of a number.
+    pub fn mark(&self, number: u64) -> PatchedMark
+        ensures row { row_told result ≡ row_of self.now number }
+        ensures at { IfSome (row_told result) (λ mark. (i : ℕ)
             × (slice_get self.now i ≡ Some (number, mark))) }
     {
-        self.rows.get(&number).copied()
+        match self.rows.get(&number) {
+            Some(row) => patched_mark(*row),
+            None => PatchedMark::Untouched,
+        }
+    }
+}
+
+// What a row says of the mark of its number.
+fn patched_mark(row: Option<u32>) -> PatchedMark
+    ensures { row_told result ≡ Some row }
+{
+    match row {
+        Some(mark) => PatchedMark::Marked(mark),
+        None => PatchedMark::Cleared,
     }
 }
 
