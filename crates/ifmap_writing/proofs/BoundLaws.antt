@@ -20,7 +20,6 @@ use Rattle.ifmap_elem.specs.declared.elements.Child.{Child, out-Child}
 use Rattle.ifmap_elem.specs.declared.elements.Child.TheOpen.{Child-F}
 use Rattle.ifmap_elem.specs.declared.elements.Element.{Element}
 use Rattle.ifmap_elem.specs.laws.FitLaws.{nesting_arranged, out_text}
-use Rattle.ifmap_forms.specs.Values.{session_field}
 use Rattle.ifmap_requests.specs.ifmap_envelopes.Envelopes.{IsEnvelope}
 use Rattle.ifmap_ident.specs.ifmap_reader.declared.scoping.Scope.{Scope}
 use Rattle.ifmap_ident.specs.declared.codes.Code.{Code}
@@ -35,7 +34,7 @@ use Rattle.ifmap_requests.specs.ifmap_forms.Items.{from_list, is_list, item_of, 
 use Rattle.ifmap_requests.specs.ifmap_forms.Scopes.{Scopes, scopes_below}
 use Rattle.ifmap_requests.specs.ifmap_forms.Tables.{Both, ElementForm, Part, AttributeTable, table_with, both, each_element, form_check, form_or, no_attributes, parts_in}
 use Rattle.ifmap_requests.specs.ifmap_forms.Tables.{element_parts}
-use Rattle.ifmap_requests.specs.ifmap_forms.Values.{greatest_size, longest_name, usual_size}
+use Rattle.ifmap_requests.specs.ifmap_forms.Values.{greatest_size, longest_name, session_field, usual_size}
 use Rattle.ifmap_requests.specs.ifmap_forms.Values.{Field, depth_field, field_check, name_field, number_of_digits, read_depth}
 use Rattle.ifmap_requests.specs.ifmap_forms.Values.{read_name, read_size, size_field}
 use Rattle.ifmap_requests.specs.declared.publish_ops.PublishOp.{PublishOp}

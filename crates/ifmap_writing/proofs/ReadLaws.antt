@@ -31,14 +31,13 @@ use Rattle.ifmap_ident.specs.Parts.{has_only}
 use Rattle.ifmap_meta.specs.declared.metadata.Metadata.{Metadata}
 use Rattle.ifmap_meta.specs.Whole.{IsMadeOf, IsMetadata}
 use Rattle.ifmap_search.specs.declared.searches.Search as search
-use Rattle.ifmap_forms.specs.Values.{publisher_field, session_field}
 use Rattle.ifmap_requests.specs.ifmap_forms.AnswerLaws.{found_alone, found_beside, found_form}
 use Rattle.ifmap_requests.specs.ifmap_forms.Checks.{Check, need_some, pass}
 use Rattle.ifmap_requests.specs.ifmap_forms.Items.{before_list, from_list, identifiers_check, item_check, list_if_there, list_check}
 use Rattle.ifmap_requests.specs.ifmap_forms.Items.{start_check}
 use Rattle.ifmap_requests.specs.ifmap_forms.Scopes.{Scopes, scopes_below}
 use Rattle.ifmap_requests.specs.ifmap_forms.Tables.{Part, both, each_element, list_of, parts_in}
-use Rattle.ifmap_requests.specs.ifmap_forms.Values.{greatest_limit, least_limit}
+use Rattle.ifmap_requests.specs.ifmap_forms.Values.{greatest_limit, least_limit, publisher_field, session_field}
 use Rattle.ifmap_requests.specs.ifmap_forms.Values.{Field, depth_field, field_check, filter_field, kinds_field, lifetime_field, limit_field, name_field}
 use Rattle.ifmap_requests.specs.ifmap_forms.Values.{read_filter, size_field}
 use Rattle.ifmap_requests.specs.declared.publish_ops.PublishOp.{PublishOp}
