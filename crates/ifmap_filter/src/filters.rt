@@ -127,22 +127,12 @@ fn parts_are_one(one: &Many<Predicate>, other: &Many<Predicate>) -> bool
 
 impl Equals for Test {
     fn equals(&self, other: &Test) -> bool {
-        names_are_one(&self.name, &other.name)
-            && optional_predicates_are_one(&self.predicate, &other.predicate)
+        options_are_one(&self.name, &other.name)
+            && options_are_one(&self.predicate, &other.predicate)
     }
 }
 
-fn names_are_one(one: &Option<Name>, other: &Option<Name>) -> bool
-    ensures { IsTrue result ↔ (one.now ≡ other.now) }
-{
-    match (one, other) {
-        (Some(one), Some(other)) => one.equals(other),
-        (None, None) => true,
-        _ => false,
-    }
-}
-
-fn optional_predicates_are_one(one: &Option<Predicate>, other: &Option<Predicate>) -> bool
+fn options_are_one<T: Equals>(one: &Option<T>, other: &Option<T>) -> bool
     ensures { IsTrue result ↔ (one.now ≡ other.now) }
 {
     match (one, other) {
