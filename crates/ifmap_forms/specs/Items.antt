@@ -21,7 +21,7 @@ use Rattle.ifmap_forms.specs.declared.errors.FormError.TheVariants as form
 use Rattle.ifmap_forms.specs.declared.lists.Listed.{Listed}
 use Rattle.ifmap_forms.specs.Checks.{Check, check_then, fail, need, need_some, pass}
 use Rattle.ifmap_elem.specs.WhiteSpace.{is_blank_part}
-use Rattle.ifmap_forms.specs.Tables.{ContentCheck, Part, each_element, element_parts}
+use Rattle.ifmap_forms.specs.Tables.{ContentCheck, Part, each_element, element_parts, only_member}
 
 -- ---- one identifier
 
@@ -65,14 +65,9 @@ item_of (a ∷ (b ∷ [])) = pair_of a b
 item_of (a ∷ (b ∷ (c ∷ more))) = None
 
 -- one identifier
-abbrev pub only_identifier : List Identifier → Option Identifier
-only_identifier [] = None
-only_identifier (a ∷ []) = Some a
-only_identifier (a ∷ (b ∷ more)) = None
-
 abbrev pub start_check : List Part → Check Identifier
 start_check parts =
-    check_then (identifiers_check 1 [] parts) (λ identifiers. need_some Failure (only_identifier identifiers) (λ i. pass i))
+    check_then (identifiers_check 1 [] parts) (λ identifiers. need_some Failure (only_member identifiers) (λ i. pass i))
 
 abbrev pub start_content : ContentCheck Identifier
 start_content scopes = start_check

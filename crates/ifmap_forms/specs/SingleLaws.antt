@@ -19,12 +19,12 @@ use Rattle.ifmap_ident.specs.Parts.{has_only, value_of}
 use Rattle.ifmap_forms.specs.CheckLaws.{fail_single, if_single, need_single, pass_single, some_single, then_single}
 use Rattle.ifmap_forms.specs.Checks.{Check, IsSingle, check_then, need, need_some, pass}
 use Rattle.ifmap_forms.specs.Items.{identifier_check, identifier_code, identifiers_check, item_content, item_of, list_if_there, list_check}
-use Rattle.ifmap_forms.specs.Items.{may_follow, only_identifier, start_content}
+use Rattle.ifmap_forms.specs.Items.{may_follow, start_content}
 use Rattle.ifmap_forms.specs.Scopes.{Scopes}
 use Rattle.ifmap_elem.specs.WhiteSpace.{is_blank_part}
 use Rattle.ifmap_elem.specs.Building.{is_name}
 use Rattle.ifmap_forms.specs.Tables.{ContentCheck, ElementForm, Part, AttributeTable, table_with, both, each_element, form_or, no_attributes}
-use Rattle.ifmap_forms.specs.Tables.{no_children, element_parts, read_form, form_check}
+use Rattle.ifmap_forms.specs.Tables.{no_children, element_parts, read_form, form_check, only_member}
 use Rattle.ifmap_forms.specs.Values.{Field, field_check, read_text}
 
 -- ---- 1. identifiers
@@ -185,9 +185,9 @@ module _ (identifier_one : (e : Element) → IsSingle (identifier_check e)) wher
 
   pub start_single : OneOfContent start_content
   start_single scopes parts =
-      then_single (identifiers_check 1 [] parts) (λ identifiers. need_some Failure (only_identifier identifiers) (λ i. pass i))
+      then_single (identifiers_check 1 [] parts) (λ identifiers. need_some Failure (only_member identifiers) (λ i. pass i))
       (identifiers_single 1 [] parts)
-      (λ identifiers. some_single Failure (only_identifier identifiers) (λ i. pass i) (λ i. pass_single i))
+      (λ identifiers. some_single Failure (only_member identifiers) (λ i. pass i) (λ i. pass_single i))
 
   pub item_single : OneOfContent item_content
   item_single scopes parts =

@@ -1,5 +1,5 @@
 -- Tables of attributes and of children: what an element means by them.
-use Rattle.std.specs.Prelude.{ℕ, ◌+◌, Bool, List, [], ◌∷◌, ◌++◌, map}
+use Rattle.std.specs.Prelude.{ℕ, ◌+◌, Bool, List, [], ◌∷◌, ◌++◌, map, Option, None, Some}
 use Rattle.std.specs.List.{list_all}
 use Rattle.ifmap_elem.specs.Building.{bare_name, is_name}
 use Rattle.ifmap_elem.specs.Chars.{is_white}
@@ -81,6 +81,12 @@ module _ {X : Type 0} where
   -- the same, where it does not matter in which scopes they stand
   abbrev pub members_check : (Element → Check X) → List Part → Check (List X)
   members_check one parts = each_element (λ index e. one e) 0 parts
+
+  -- the one member, where it stands alone
+  abbrev pub only_member : List X → Option X
+  only_member [] = None
+  only_member (x ∷ []) = Some x
+  only_member (x ∷ (y ∷ more)) = None
 
 -- ---- elements
 

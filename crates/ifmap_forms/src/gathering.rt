@@ -1,6 +1,7 @@
-//! Lists that grow by what is found.
+//! Lists that grow by what is found, and the one that is found alone.
 ghost use Rattle.std.specs.Prelude.{◌≡◌, ◌++◌, OnOk};
 ghost use Rattle.ifmap_forms.specs.Gathering.{option_list};
+ghost use Rattle.ifmap_forms.specs.Tables.{only_member};
 
 use std::alloc::AllocError as NoMemory;
 
@@ -12,4 +13,14 @@ pub fn keep_found<T: Drop>(members: &mut Vec<T>, found: Option<T>) -> Result<(),
         members.push(member)?;
     }
     Ok(())
+}
+
+/// The one member, where it stands alone.
+pub fn only_member<T: Drop>(mut members: Vec<T>) -> Option<T>
+    ensures { result ≡ only_member members.items }
+{
+    if members.len() != 1 {
+        return None;
+    }
+    members.pop()
 }

@@ -5,11 +5,11 @@ ghost use Rattle.ifmap_ident.specs.Identifiers.{same_identifier};
 ghost use Rattle.ifmap_elem.specs.declared.elements.Child.{out-Child};
 ghost use Rattle.ifmap_forms.specs.Answers.{IsChecked, IsCheckedAs};
 ghost use Rattle.ifmap_forms.specs.Gathering.{following_check, part_check};
-ghost use Rattle.ifmap_forms.specs.Items.{before_list, from_list, identifier_check, identifier_refusal, identifiers_check, is_list, item_check, item_of, may_follow, only_identifier, start_check};
+ghost use Rattle.ifmap_forms.specs.Items.{before_list, from_list, identifier_check, identifier_refusal, identifiers_check, is_list, item_check, item_of, may_follow, start_check};
 ghost use Rattle.ifmap_forms.specs.Tables.{parts_in};
 
 use crate::errors::FormError;
-use crate::gathering::keep_found;
+use crate::gathering::{keep_found, only_member};
 use ifmap_elem::white_space::is_white_alone;
 use ifmap_elem::{Child, Element};
 use ifmap_ident::{Code, IdentError, Identifier, Item};
@@ -23,20 +23,10 @@ pub fn read_start(alloc: Global, children: &[Child]) -> Result<Identifier, FormE
     ensures { IsChecked (start_check (parts_in children.now)) result }
 {
     let identifiers = read_identifiers(alloc, 1, children)?;
-    match only_identifier(identifiers) {
+    match only_member(identifiers) {
         Some(identifier) => Ok(identifier),
         None => Err(FormError::Named(Code::Failure)),
     }
-}
-
-// The identifier, where it is one alone.
-fn only_identifier(mut identifiers: Vec<Identifier>) -> Option<Identifier>
-    ensures { result ≡ only_identifier identifiers.items }
-{
-    if identifiers.len() != 1 {
-        return None;
-    }
-    identifiers.pop()
 }
 
 /// One identifier or two different ones among children, with nothing beside them but white space,

@@ -22,7 +22,7 @@ use Rattle.ifmap_forms.specs.Items.{before_list, from_list, identifier_check, id
 use Rattle.ifmap_forms.specs.Scopes.{Scopes}
 use Rattle.ifmap_elem.specs.WhiteSpace.{is_blank_part}
 use Rattle.ifmap_forms.specs.Tables.{ContentCheck, ElementForm, Part, AttributeTable, table_with, both, each_element, form_check, no_attributes}
-use Rattle.ifmap_forms.specs.Tables.{members_check, no_children, element_parts, read_form}
+use Rattle.ifmap_forms.specs.Tables.{members_check, no_children, element_parts, only_member, read_form}
 use Rattle.ifmap_forms.specs.Values.{Field, field_check, publisher_field, read_text, session_field, text_field}
 use Rattle.ifmap_forms.specs.IdentifierLaws.{identifier_done, identifiers_done}
 use Rattle.ifmap_replies.specs.declared.kinds.PollKind.{PollKind}
@@ -36,7 +36,7 @@ use Rattle.ifmap_replies.specs.Laws.{NoReplyWithDefect, ReplyOrNone}
 use Rattle.ifmap_replies.specs.Means.{IsReplyOf}
 use Rattle.ifmap_replies.specs.ResultForms.{element_check, entries_check, error_form, error_made, found_form, found_made, is_text}
 use Rattle.ifmap_replies.specs.ResultForms.{session_result_form, new_session_made, no_scopes, note_check, only_check}
-use Rattle.ifmap_replies.specs.ResultForms.{only_member, elements_or_none, plain_check, plain_form, plain_made, poll_check, poll_kind_check}
+use Rattle.ifmap_replies.specs.ResultForms.{elements_or_none, plain_check, plain_form, plain_made, poll_check, poll_kind_check}
 use Rattle.ifmap_replies.specs.ResultForms.{poll_kind_of, polled_form, polled_made, response_check, response_form, response_made}
 use Rattle.ifmap_replies.specs.ResultForms.{result_check, result_kind_check, result_kind_of, run_check, run_form, run_from, run_made}
 use Rattle.ifmap_replies.specs.ResultForms.{run_parts, told_error_form, told_error_made, told_form, told_made}

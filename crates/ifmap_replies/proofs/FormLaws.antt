@@ -10,8 +10,8 @@ use Rattle.ifmap_forms.specs.AnswerLaws.{found_form, refused_at_content}
 use Rattle.ifmap_forms.specs.Answers.{IsChecked, IsCheckRefusal}
 use Rattle.ifmap_forms.specs.Checks.{Check, need, need_some, pass}
 use Rattle.ifmap_forms.specs.Scopes.{Scopes}
-use Rattle.ifmap_forms.specs.Tables.{ElementForm, Part, form_check, element_parts, members_check}
-use Rattle.ifmap_replies.specs.ResultForms.{only_check, only_member}
+use Rattle.ifmap_forms.specs.Tables.{ElementForm, Part, form_check, element_parts, members_check, only_member}
+use Rattle.ifmap_replies.specs.ResultForms.{only_check}
 
 module _ {X : Type 0} where
   -- what is found where a test passes

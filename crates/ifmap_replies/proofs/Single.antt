@@ -20,7 +20,7 @@ use Rattle.ifmap_forms.specs.Checks.{Check, IsSingle, check_then, need, need_som
 use Rattle.ifmap_forms.specs.Items.{before_list, from_list, identifier_check, identifiers_check, item_of, list_if_there}
 use Rattle.ifmap_forms.specs.SingleLaws.{beside_single, made_single, each_single, read_text_single, list_at_single, no_attributes_single}
 use Rattle.ifmap_forms.specs.SingleLaws.{no_children_single, identifiers_single}
-use Rattle.ifmap_forms.specs.Tables.{Part, table_with, form_check, members_check, no_attributes, element_parts}
+use Rattle.ifmap_forms.specs.Tables.{Part, table_with, form_check, members_check, no_attributes, element_parts, only_member}
 use Rattle.ifmap_forms.specs.Values.{publisher_field, session_field, text_field}
 use Rattle.ifmap_replies.specs.declared.kinds.PollKind.{PollKind}
 use Rattle.ifmap_replies.specs.declared.kinds.PollKind.TheVariants as told
@@ -33,7 +33,7 @@ use Rattle.ifmap_replies.specs.Laws.{NoReplyWithDefect, OneReplyMeaning, OneRepl
 use Rattle.ifmap_replies.specs.Means.{IsReplyOf}
 use Rattle.ifmap_replies.specs.ResultForms.{element_check, entries_check, error_form, error_made, found_form, found_made, is_text}
 use Rattle.ifmap_replies.specs.ResultForms.{session_result_form, new_session_made, no_scopes, note_check, only_check}
-use Rattle.ifmap_replies.specs.ResultForms.{only_member, elements_or_none, plain_check, plain_form, plain_made, poll_check, poll_kind_check}
+use Rattle.ifmap_replies.specs.ResultForms.{elements_or_none, plain_check, plain_form, plain_made, poll_check, poll_kind_check}
 use Rattle.ifmap_replies.specs.ResultForms.{poll_kind_of, polled_form, polled_made, response_check, response_form, response_made}
 use Rattle.ifmap_replies.specs.ResultForms.{result_check, result_kind_check, result_kind_of, run_check, run_form, run_from, run_made}
 use Rattle.ifmap_replies.specs.ResultForms.{run_parts, told_error_form, told_error_made, told_form, told_made}

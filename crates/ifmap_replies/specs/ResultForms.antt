@@ -22,7 +22,7 @@ use Rattle.ifmap_forms.specs.Checks.{Check, check_then, need, need_some, pass}
 use Rattle.ifmap_forms.specs.Items.{before_list, from_list, identifiers_check, item_of, list_if_there}
 use Rattle.ifmap_forms.specs.Scopes.{Scopes}
 use Rattle.ifmap_forms.specs.Tables.{Both, ContentCheck, ElementForm, OneText, Part, bare_form, table_with, form_check, members_check, no_attributes}
-use Rattle.ifmap_forms.specs.Tables.{no_children, element_parts}
+use Rattle.ifmap_forms.specs.Tables.{no_children, element_parts, only_member}
 use Rattle.ifmap_forms.specs.Values.{publisher_field, session_field, text_field}
 use Rattle.ifmap_replies.specs.declared.kinds.EntriesKind.{EntriesKind}
 use Rattle.ifmap_replies.specs.declared.kinds.EntriesKind.TheVariants as entries
@@ -42,11 +42,6 @@ abbrev pub no_scopes : Scopes
 no_scopes path = record { rows = [] }
 
 module _ {X : Type 0} where
-  abbrev pub only_member : List X → Option X
-  only_member [] = None
-  only_member (x ∷ []) = Some x
-  only_member (x ∷ (y ∷ more)) = None
-
   -- one such element alone
   abbrev pub only_check : (Element → Check X) → List Part → Check X
   only_check one parts = check_then (members_check one parts) (λ xs. need_some Failure (only_member xs) (λ x. pass x))

@@ -1,11 +1,11 @@
 //! One element alone.
-ghost use Rattle.std.specs.Prelude.{◌≡◌};
 ghost use Rattle.ifmap_forms.specs.Answers.{IsChecked};
 ghost use Rattle.ifmap_forms.specs.Tables.{parts_in};
-ghost use Rattle.ifmap_replies.specs.ResultForms.{only_check, only_member};
+ghost use Rattle.ifmap_replies.specs.ResultForms.{only_check};
 
 use ifmap_elem::Child;
 use ifmap_forms::FormError;
+use ifmap_forms::gathering::only_member;
 use ifmap_forms::members::{MemberReader, read_members};
 use ifmap_ident::Code;
 use std::alloc::Global;
@@ -22,13 +22,4 @@ pub(crate) fn read_only_member<R: MemberReader>(
         Some(member) => Ok(member),
         None => Err(FormError::Named(Code::Failure)),
     }
-}
-
-fn only_member<T: Drop>(mut members: Vec<T>) -> Option<T>
-    ensures { result ≡ only_member members.items }
-{
-    if members.len() != 1 {
-        return None;
-    }
-    members.pop()
 }

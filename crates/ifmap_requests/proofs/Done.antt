@@ -32,11 +32,11 @@ use Rattle.ifmap_meta.specs.Whole.{content_limit}
 use Rattle.ifmap_forms.specs.CheckLaws.{fail_done, if_done, need_done, pass_done, some_done, then_done, word_check_done}
 use Rattle.ifmap_forms.specs.Checks.{Check, IsConclusive, check_if, check_then, fail, need, need_some, pass}
 use Rattle.ifmap_forms.specs.Items.{before_list, from_list, identifier_check, identifiers_check, item_content, item_of, list_if_there, list_check}
-use Rattle.ifmap_forms.specs.Items.{may_follow, only_identifier, start_content}
+use Rattle.ifmap_forms.specs.Items.{may_follow, start_content}
 use Rattle.ifmap_forms.specs.Scopes.{Scopes, scopes_below}
 use Rattle.ifmap_elem.specs.WhiteSpace.{is_blank_part}
 use Rattle.ifmap_forms.specs.Tables.{ContentCheck, ElementForm, Part, AttributeTable, table_with, both, each_element, form_or, list_of, no_attributes}
-use Rattle.ifmap_forms.specs.Tables.{no_children, element_parts, read_form}
+use Rattle.ifmap_forms.specs.Tables.{no_children, element_parts, read_form, only_member}
 use Rattle.ifmap_forms.specs.Values.{greatest_limit, greatest_size, least_limit, longest_name, publisher_field, session_field, usual_size}
 use Rattle.ifmap_forms.specs.Values.{Field, depth_field, field_check, filter_check, filter_field, kind_named, kinds_check, kinds_field}
 use Rattle.ifmap_forms.specs.Values.{lifetime_field, limit_field, name_field, number_of_digits, piece_check, pieces_of, size_field, text_field}
@@ -214,8 +214,8 @@ module _ (most : ℕ) where
   module _ (identifier : (e : Element) → IsConclusive (identifier_check e)) where
     start_done : ContentDone most start_content
     start_done scopes parts sound =
-        then_done (identifiers_check 1 [] parts) (λ identifiers. need_some Failure (only_identifier identifiers) (λ i. pass i))
-        (λ identifiers found. some_done Failure (only_identifier identifiers) (λ i. pass i) (λ i. pass_done i))
+        then_done (identifiers_check 1 [] parts) (λ identifiers. need_some Failure (only_member identifiers) (λ i. pass i))
+        (λ identifiers found. some_done Failure (only_member identifiers) (λ i. pass i) (λ i. pass_done i))
         (identifiers_done identifier 1 [] parts)
 
     item_done : ContentDone most item_content

@@ -30,12 +30,12 @@ use Rattle.ifmap_meta.specs.declared.metadata.Metadata.{Metadata}
 use Rattle.ifmap_meta.specs.Whole.{IsMadeOf, IsMetadata, level_limit}
 use Rattle.ifmap_forms.specs.Checks.{Check, check_if, check_then, fail, need, need_some, pass}
 use Rattle.ifmap_forms.specs.Items.{before_list, from_list, identifier_check, identifiers_check, item_content, item_of, list_if_there, list_check}
-use Rattle.ifmap_forms.specs.Items.{may_follow, only_identifier, start_content}
+use Rattle.ifmap_forms.specs.Items.{may_follow, start_content}
 use Rattle.ifmap_forms.specs.Scopes.{Scopes, scopes_below}
 use Rattle.ifmap_forms.specs.Tables.{Both, ContentCheck, ElementForm, OneText, Part, AttributeTable, table_with, both, each_element, form_check, form_or}
 use Rattle.ifmap_elem.specs.WhiteSpace.{is_blank_part}
 use Rattle.ifmap_elem.specs.Building.{is_name}
-use Rattle.ifmap_forms.specs.Tables.{list_of, no_attributes, no_children, element_parts, read_form}
+use Rattle.ifmap_forms.specs.Tables.{list_of, no_attributes, no_children, element_parts, read_form, only_member}
 use Rattle.ifmap_forms.specs.ifmap_filter.declared.filters.Filter.{Filter}
 use Rattle.ifmap_ident.specs.declared.kinds.Kind.{Kind}
 use Rattle.ifmap_forms.specs.Values.{greatest_limit, least_limit, longest_name, publisher_field, session_field}
@@ -243,7 +243,7 @@ item_fit (a ∷ []) s = record { ordered = tt; identifiers = (s.0, tt) }
 item_fit (a ∷ (b ∷ [])) s = ordered_fit (identifier_order a b) a b refl s.0 s.1.0
 item_fit (a ∷ (b ∷ (c ∷ more))) s = tt
 
-only_fit : (identifiers : List Identifier) → AreIdentifiers identifiers → IfSome (only_identifier identifiers) IsIdentifier
+only_fit : (identifiers : List Identifier) → AreIdentifiers identifiers → IfSome (only_member identifiers) IsIdentifier
 only_fit [] s = tt
 only_fit (a ∷ []) s = s.0
 only_fit (a ∷ (b ∷ more)) s = tt
@@ -251,8 +251,8 @@ only_fit (a ∷ (b ∷ more)) s = tt
 start_gives : ContentGives start_content IsIdentifier
 start_gives scopes parts fit s =
     then_gives AreIdentifiers IsIdentifier (identifiers_check 1 [] parts)
-    (λ identifiers. need_some Failure (only_identifier identifiers) (λ i. pass i)) (identifiers_gives 1 [] parts s)
-    (λ identifiers p. some_gives IsIdentifier IsIdentifier Failure (only_identifier identifiers) (λ i. pass i) (only_fit identifiers p)
+    (λ identifiers. need_some Failure (only_member identifiers) (λ i. pass i)) (identifiers_gives 1 [] parts s)
+    (λ identifiers p. some_gives IsIdentifier IsIdentifier Failure (only_member identifiers) (λ i. pass i) (only_fit identifiers p)
     (λ i q. pass_gives IsIdentifier i q))
 
 item_gives : ContentGives item_content IsCanonItem
