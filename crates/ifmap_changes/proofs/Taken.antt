@@ -1,9 +1,12 @@
 -- What publishes and retractions meet: subscriptions that are marked (`ready_marked`, `marked_state`), a change that can stay as it is
--- (`can_settle`), and a plan that takes away (`taken_canon`, `taken_told`).
-use Rattle.std.proofs.Common.{◌≡◌, ◌≢◌, ◌∙◌, ℕ, true, Some, List, [], length, map, slice_get, ap, sym, subst}
+-- (`can_settle`), and a plan that takes away (`taken_canon`, `taken_told`, `taken_within`, `found_within`).
+use Rattle.std.proofs.Common.{◌≡◌, ◌≢◌, ◌∙◌, ℕ, true, Some, List, length, map, slice_get, ap, sym, subst, inl, arith}
+use Rattle.std.proofs.lemmas.Result.{on_ok_weaker}
 use Rattle.std.specs.List.{AllByRecursion}
+use Rattle.std.specs.Prelude.{Result, OnOk}
 use Rattle.ifmap_changes.specs.Between.{AreWithinLimits, Asking, IsSoundSoFar, rest_of, sessions_left, sight_now, state_now}
-use Rattle.ifmap_changes.specs.Changes.{CanSettle, CanTakeBack, TakesAway}
+use Rattle.ifmap_changes.specs.Bounds.{IsPlanWithin, IsRetractedWithin, IsTakenWithin}
+use Rattle.ifmap_changes.specs.Changes.{CanSettle, CanTakeBack, TakesAway, TellsPlan, state_taken_from}
 use Rattle.ifmap_changes.specs.declared.changes.Made.{Made}
 use Rattle.ifmap_changes.specs.declared.parts.Parts.{Parts}
 use Rattle.ifmap_changes.proofs.EachPlace.{less_kept}
@@ -15,7 +18,6 @@ use Rattle.ifmap_tellings.specs.ifmap_machine.State.{State}
 use Rattle.ifmap_tellings.specs.ifmap_machine.Telling.{overflow, tell}
 use Rattle.ifmap_graph.specs.ifmap_plans.declared.plans.Note.{Note}
 use Rattle.ifmap_graph.specs.ifmap_plans.declared.plans.Plan.{Plan}
-use Rattle.ifmap_graph.specs.ifmap_plans.Plans.{IsAfter}
 use Rattle.ifmap_tellings.specs.ifmap_publish.declared.who.Who.{Who}
 use Rattle.ifmap_tellings.specs.ifmap_publish.Apply.{Authorship}
 use Rattle.ifmap_tellings.specs.ifmap_publish.Retract.{retract}
@@ -23,8 +25,6 @@ use Rattle.ifmap_tellings.specs.ifmap_session.Sessions.{IsLive}
 use Rattle.ifmap_tellings.specs.ifmap_standing.Standing.{standing_of}
 use Rattle.ifmap_tellings.specs.declared.tellings.Pending.{Pending}
 use Rattle.ifmap_tellings.specs.Tellings.{AloneAreBare, CanTell, EachTelling, IsSized, kept_items, tell_by}
-use Rattle.ifmap_graph.specs.ifmap_view.declared.attachments.Attachment.{Attachment}
-use Rattle.ifmap_graph.specs.ifmap_view.Attachments.{IsGraph}
 
 -- who asks, as an author in a session
 abbrev pub author_of : ℕ → Asking → Authorship
@@ -72,13 +72,25 @@ marked_state serials a parts old new gone same = λ k. record {
 pub can_settle : (made : Made) (before parts : Parts) → CanTakeBack made before parts → CanSettle made parts
 can_settle made before parts can = record { waits = can.graph.waits; ways = can.standing.long }
 
--- a plan that takes away notifies nothing, and tells what goes
-module _ {who : Who} {first : List Attachment} {plan : Plan} (taken : TakesAway who first plan) where
+-- a plan that takes away notifies nothing, and tells what goes; its steps are those of finding it and those of telling it
+module _ (parts : Parts) {who : Who} {plan : Plan} (taken : TakesAway who (rows_now parts.graph) plan) where
   pub taken_canon : AllByRecursion (λ (n : Note). IsCanonItem n.item) plan.notes
   taken_canon = subst (AllByRecursion (λ (n : Note). IsCanonItem n.item)) (sym taken.notes) tt
 
-  pub taken_told : (after before : State)
-      → ((rows : List Attachment) → IsGraph rows → IsAfter plan.changes first rows → after ≡ overflow (tell rows plan.notes before))
-      → after ≡ overflow (tell (retract who first) [] before)
-  taken_told after before tells =
-      tells (retract who first) taken.graph taken.after ∙ ap (λ notes. overflow (tell (retract who first) notes before)) taken.notes
+  pub taken_told : {T E : Type 0} (result : Result T E) (a : Asking) (before after : Pending) (new : Parts)
+      → OnOk result (TellsPlan a plan parts before new after)
+      → OnOk result (state_now a new after ≡ state_taken_from who (state_now a parts before))
+  taken_told result a before after new told =
+      let rows = retract who (rows_now parts.graph) in
+      on_ok_weaker result (λ (tells : TellsPlan a plan parts before new after). tells rows taken.graph taken.after
+      ∙ ap (λ notes. overflow (tell rows notes (state_now a parts before))) taken.notes) told
+
+  pub taken_within : (a : Asking) (before : Pending) (from middle till : ℕ) → IsRetractedWithin (rows_now parts.graph) from middle
+      → IsPlanWithin plan (state_now a parts before) middle till → IsTakenWithin who (state_now a parts before) from till
+  taken_within a before from middle till found told =
+      (middle, found, told (retract who (rows_now parts.graph)) taken.graph taken.after)
+
+-- where no plan came of it, they are those of finding
+pub found_within : (who : Who) (state : State) (from middle : ℕ) → IsRetractedWithin state.graph from middle
+    → IsTakenWithin who state from middle
+found_within who state from middle found = (middle, found, inl (omega arith))

@@ -1,8 +1,10 @@
 -- Parts that are steady are kept as they are.
 use Rattle.std.proofs.Common.{refl, ◌∙◌, sym, subst, arith}
+use Rattle.std.specs.Prelude.{Result, OnErr}
 use Rattle.ifmap_tellings.specs.ifmap_standing.declared.standing.Standing.{Standing}
 use Rattle.ifmap_tellings.specs.ifmap_standing.Kept.{KeepsSame, StaysRelated}
 use Rattle.std.proofs.lemmas.Option.{same_Some}
+use Rattle.ifmap_lemmas.specs.Results.{on_err}
 use Rattle.ifmap_changes.specs.Between.{AreKept, IsSteady}
 use Rattle.ifmap_changes.specs.declared.parts.Parts.{Parts}
 
@@ -35,3 +37,8 @@ stays_kept parts s = record {
   };
   backs = λ u rows links b. b;
 }
+
+-- so they are at an error before which nothing was changed
+pub error_keeps : {T E : Type 0} (result : Result T E) (parts : Parts) → IsSteady parts.graph parts.standing.items
+    → OnErr result (AreKept parts parts)
+error_keeps result parts steady = on_err result (AreKept parts parts) (stays_kept parts steady)

@@ -4,13 +4,12 @@ use Rattle.std.proofs.lemmas.Bool.{false≢true}
 use Rattle.std.specs.Result.{IsErr}
 use Rattle.ifmap_subscribes.specs.ifmap_changes.Between.{AreBack, AreKept, AreTurned, IsSteady}
 use Rattle.ifmap_subscribes.specs.ifmap_changes.declared.parts.Parts.{Parts}
-use Rattle.ifmap_subscribes.specs.ifmap_changes.KeptLaws.{stays_kept}
+use Rattle.ifmap_subscribes.specs.ifmap_changes.KeptLaws.{error_keeps}
 use Rattle.ifmap_core.proofs.Turned.{stays_turned}
 use Rattle.ifmap_core.specs.Answering.{TurnsOrKeeps}
 use Rattle.ifmap_core.specs.declared.ending.Time.{Time}
 use Rattle.ifmap_core.specs.Ending.{AnswersEvent}
 use Rattle.ifmap_lemmas.specs.Outcomes.{on_ok}
-use Rattle.ifmap_lemmas.specs.Results.{on_err}
 use Rattle.ifmap_subscribes.specs.ifmap_machine.declared.events.Answer.{Answer}
 use Rattle.ifmap_subscribes.specs.ifmap_machine.Events.{Event}
 use Rattle.ifmap_subscribes.specs.ifmap_machine.State.{State}
@@ -20,7 +19,7 @@ module _ {X E : Type 0} where
   pub stays_turns : (r : Result X E) (parts : Parts) → IsSteady parts.graph parts.standing.items → TurnsOrKeeps r parts parts
   stays_turns r parts steady = record {
     turned = on_ok r (AreTurned parts parts) (stays_turned parts);
-    kept = on_err r (AreKept parts parts) (stays_kept parts steady);
+    kept = error_keeps r parts steady;
   }
 
   -- parts that are kept after an error

@@ -1,21 +1,20 @@
 use Rattle.std.proofs.Common.{◌≡◌, inl, arith, sym, ◌∙◌, subst, ap}
 use Rattle.std.proofs.lemmas.Result.{on_ok_weaker}
 use Rattle.std.specs.List.{AllByRecursion}
-use Rattle.ifmap_changes.specs.Between.{AreKept, state_now}
+use Rattle.ifmap_changes.specs.Between.{state_now}
 use Rattle.ifmap_changes.proofs.Taken.{author_of}
 use Rattle.ifmap_changes.proofs.graph_changes.publish.Given as given
 use Rattle.ifmap_changes.proofs.graph_changes.publish.Goals as goal
 use Rattle.ifmap_changes.proofs.graph_changes.publish.Goals.{After-make_change}
 use Rattle.ifmap_graph.specs.Seen.{rows_now}
 use Rattle.ifmap_ident.specs.Items.{IsCanonItem}
-use Rattle.ifmap_lemmas.specs.Results.{on_err}
 use Rattle.ifmap_tellings.specs.ifmap_machine.Telling.{overflow, tell}
 use Rattle.ifmap_graph.specs.ifmap_plans.declared.plans.Note.{Note}
 use Rattle.ifmap_graph.specs.ifmap_plans.Plans.{IsAfter}
 use Rattle.ifmap_tellings.specs.ifmap_publish.Apply.{Authorship, apply}
 use Rattle.ifmap_tellings.specs.ifmap_publish.Notes.{notes_of}
 use Rattle.ifmap_tellings.specs.ifmap_publish.NoteLaws.{notes_canon}
-use Rattle.ifmap_changes.specs.KeptLaws.{stays_kept}
+use Rattle.ifmap_changes.specs.KeptLaws.{error_keeps}
 
 -- the author of the plan, as the fields of who asks are read
 abbrev author_read : (g : given.Over) → After-make_change g → Authorship
@@ -55,8 +54,7 @@ returns-clause-told g c =
     (c.in_ok-plan.ensures.notes ∙ ap (λ a. notes_of a ops) (same_author g place))) c.make_change.ensures.told
 
 pub returns-in_err-plan-clause-kept : goal.returns-in_err-plan-clause-kept
-returns-in_err-plan-clause-kept g c =
-    on_err c.from_residual.result (AreKept c.args.parts.now c.args.parts.now) (stays_kept c.args.parts.now c.requires.steady)
+returns-in_err-plan-clause-kept g c = error_keeps c.from_residual.result c.args.parts.now c.requires.steady
 
 pub returns-in_err-plan-clause-steps : goal.returns-in_err-plan-clause-steps
 returns-in_err-plan-clause-steps g c = inl (omega arith)

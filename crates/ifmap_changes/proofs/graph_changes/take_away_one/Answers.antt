@@ -1,13 +1,12 @@
 use Rattle.std.proofs.Common.{◌≡◌, ◌≢◌, ℕ, List, [], ◌∷◌, ◌++◌, length, map, ◌∙◌, subst, ap}
 use Rattle.std.proofs.lemmas.Result.{on_ok_weaker}
-use Rattle.ifmap_changes.specs.Between.{AreKept, state_now}
+use Rattle.ifmap_changes.specs.Between.{state_now}
 use Rattle.ifmap_changes.proofs.Spending.{ended_none, ended_within}
 use Rattle.ifmap_changes.proofs.Taken.{marked_state, ready_marked}
 use Rattle.ifmap_changes.proofs.graph_changes.take_away_one.Given as given
 use Rattle.ifmap_changes.proofs.graph_changes.take_away_one.Goals as goal
 use Rattle.ifmap_changes.proofs.graph_changes.take_away_one.Goals.{After-take_away}
 use Rattle.ifmap_graph.specs.Seen.{rows_now}
-use Rattle.ifmap_lemmas.specs.Results.{on_err}
 use Rattle.ifmap_tellings.specs.ifmap_machine.Ending.{without_standing}
 use Rattle.ifmap_tellings.specs.ifmap_machine.State.{State}
 use Rattle.ifmap_tellings.specs.ifmap_machine.Telling.{overflow, tell}
@@ -16,7 +15,7 @@ use Rattle.ifmap_tellings.specs.ifmap_publish.Retract.{retract}
 use Rattle.ifmap_tellings.specs.ifmap_standing.declared.standing.Standing.{Standing}
 use Rattle.ifmap_tellings.specs.ifmap_standing.Standing.{standing_of}
 use Rattle.ifmap_tellings.specs.Tellings.{AllKept, kept_items}
-use Rattle.ifmap_changes.specs.KeptLaws.{stays_kept}
+use Rattle.ifmap_changes.specs.KeptLaws.{error_keeps}
 
 -- the subscriptions of the session are gone
 left : (g : given.Over) (c : After-take_away g)
@@ -56,8 +55,7 @@ returns-clause-bare g c =
     c.deref.ensures.value c.flag_session.ensures.bare)) c.take_away.ensures.bare
 
 pub returns-in_err-serials-clause-kept : goal.returns-in_err-serials-clause-kept
-returns-in_err-serials-clause-kept g c =
-    on_err c.from_residual.result (AreKept c.args.parts.now c.args.parts.now) (stays_kept c.args.parts.now c.requires.steady)
+returns-in_err-serials-clause-kept g c = error_keeps c.from_residual.result c.args.parts.now c.requires.steady
 
 pub returns-in_err-serials-clause-steps : goal.returns-in_err-serials-clause-steps
 returns-in_err-serials-clause-steps g c =
