@@ -17,7 +17,7 @@ use std::ops::Bound;
 use std::sync::ledger::Ledger;
 
 // The first item whose shelf is not empty.
-fn first_of<'a>(entries: Range<'a, Item, usize>, slots: &Slab<Shelf>) -> Option<&'a Item>
+fn first_item<'a>(entries: Range<'a, Item, usize>, slots: &Slab<Shelf>) -> Option<&'a Item>
     requires { AllByRecursion (λ e. IsSome (get slots.now e.1)) entries }
     ensures found { IfSome result (λ item.
         IsFirstFull (λ at. list_at list_now (get slots.now at)) entries.entry item.now) }
@@ -43,13 +43,13 @@ fn first_after<'a>(shelves: &'a Shelves, after: Option<&Item>) -> Option<&'a Ite
 {
     let slots = &shelves.slots;
     match after {
-        Some(item) => first_of(
+        Some(item) => first_item(
             shelves
                 .places
                 .range((Bound::Excluded(item), Bound::Unbounded)),
             slots,
         ),
-        None => first_of(shelves.places.range(..), slots),
+        None => first_item(shelves.places.range(..), slots),
     }
 }
 

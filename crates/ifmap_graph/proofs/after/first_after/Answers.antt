@@ -9,12 +9,12 @@ use Rattle.ifmap_lemmas.specs.Filters.{all_pass}
 pub returns-in-None-clause-found : goal.returns-in-None-clause-found
 returns-in-None-clause-found c =
     rw c.in-None.is
-    (subst (λ es. IfSome c.first_of-in-None.result
+    (subst (λ es. IfSome c.first_item-in-None.result
     (λ item. IsFirstFull (λ at. list_at list_now (get c.args.shelves.now.slots at)) es item.now))
-    (c.range-in-None.ensures.between _ ∙ all_pass c.args.shelves.now.places.entries) c.first_of-in-None.ensures.found)
+    (c.range-in-None.ensures.between _ ∙ all_pass c.args.shelves.now.places.entries) c.first_item-in-None.ensures.found)
 
 pub returns-in-None-clause-none : goal.returns-in-None-clause-none
 returns-in-None-clause-none c =
     rw c.in-None.is
-    (subst (λ es. IfNone c.first_of-in-None.result (AreEmpty (λ at. list_at list_now (get c.args.shelves.now.slots at)) es))
-    (c.range-in-None.ensures.between _ ∙ all_pass c.args.shelves.now.places.entries) c.first_of-in-None.ensures.none)
+    (subst (λ es. IfNone c.first_item-in-None.result (AreEmpty (λ at. list_at list_now (get c.args.shelves.now.slots at)) es))
+    (c.range-in-None.ensures.between _ ∙ all_pass c.args.shelves.now.places.entries) c.first_item-in-None.ensures.none)

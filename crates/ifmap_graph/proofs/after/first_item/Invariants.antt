@@ -4,7 +4,7 @@ use Rattle.slab.specs.Slab.{get}
 use Rattle.ifmap_graph.specs.After.{IsPassing}
 use Rattle.ifmap_graph.specs.Shelved.{list_at}
 use Rattle.ifmap_graph.specs.Sides.{list_now}
-use Rattle.ifmap_graph.proofs.after.first_of.Given as goal
+use Rattle.ifmap_graph.proofs.after.first_item.Given as goal
 
 abbrev pub invariant-loop-item : goal.invariant-loop-item
 invariant-loop-item l =

@@ -4,7 +4,7 @@ use Rattle.slab.specs.Slab.{get}
 use Rattle.ifmap_graph.specs.Shelved.{list_at}
 use Rattle.ifmap_graph.specs.Sides.{list_now}
 use Rattle.ifmap_graph.proofs.Passing.{rest_has, passing}
-use Rattle.ifmap_graph.proofs.after.first_of.Goals as goal
+use Rattle.ifmap_graph.proofs.after.first_item.Goals as goal
 
 pub loop-item-preserved : goal.loop-item-preserved
 loop-item-preserved c = (
