@@ -168,7 +168,7 @@ fn keep_others(standing: &mut Vec<Standing>, gone: &[bool])
 }
 
 // Does what is left to do, and gives the answer.
-pub(crate) fn apply(parts: &mut Parts, moment: Moment, completion: Completion) -> Answer
+pub(crate) fn apply_completion(parts: &mut Parts, moment: Moment, completion: Completion) -> Answer
     requires can { CanApplyTo completion parts.old }
     requires parts { WouldBeParts (starts_in completion) parts.old }
     ensures answer { (state : State) → state.moment ≡ moment
@@ -254,5 +254,5 @@ pub(crate) fn finish(
     end_expired(&mut parts.sessions, asking.ended);
     tell_sessions(&mut parts.sessions, tellings);
     remove_gone(parts, &gone);
-    apply(parts, asking.moment, completion)
+    apply_completion(parts, asking.moment, completion)
 }

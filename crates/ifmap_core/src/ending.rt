@@ -18,7 +18,7 @@ ghost use Rattle.ifmap_subscribes.specs.ifmap_machine.Step.{step_ask};
 ghost use Rattle.ifmap_session.specs.Sessions.{is_expired};
 
 use crate::answering::answer;
-use crate::completions::{Completion, apply, finish};
+use crate::completions::{Completion, apply_completion, finish};
 use crate::light::light_completion;
 use ifmap_elem::Copied;
 use ifmap_io::Moment;
@@ -107,7 +107,7 @@ fn answer_all<L: Ledger>(
         steps.new }
 {
     match light_completion(&parts.sessions, event) {
-        Some(completion) => Ok(apply(parts, time.moment, completion)),
+        Some(completion) => Ok(apply_completion(parts, time.moment, completion)),
         None => answer_pending(alloc, parts, time, event, steps),
     }
 }

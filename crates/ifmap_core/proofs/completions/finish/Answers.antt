@@ -43,9 +43,9 @@ remove_gone-requires c = record {
   steady = (starts_in c.args.completion, c.requires.steady);
 }
 
-pub apply-requires : goal.apply-requires
-apply-requires c =
-    let place = (goal.at.apply-requires c).After-remove_gone in
+pub apply_completion-requires : goal.apply_completion-requires
+apply_completion-requires c =
+    let place = (goal.at.apply_completion-requires c).After-remove_gone in
     let old = c.args.parts.now in
     let new = c.remove_gone.new.parts in
     let steady = c.remove_gone.ensures.steady (starts_in c.args.completion) c.requires.steady in
@@ -69,10 +69,11 @@ pub returns-clause-answer : goal.returns-clause-answer
 returns-clause-answer c =
     let place = (goal.at.returns-clause-answer c).After-remove_gone in
     let old = c.args.parts.now in
-    finished c.args.asking.now old c.apply.new.parts c.args.pending c.args.completion c.apply.result
-    (c.apply.ensures.rows ∙ c.remove_gone.ensures.rows) (c.apply.ensures.answer (state_now c.args.asking.now old c.args.pending)
+    finished c.args.asking.now old c.apply_completion.new.parts c.args.pending c.args.completion c.apply_completion.result
+    (c.apply_completion.ensures.rows ∙ c.remove_gone.ensures.rows)
+    (c.apply_completion.ensures.answer (state_now c.args.asking.now old c.args.pending)
     (sym (ap (λ (a : Asking). a.moment) c.asking.view_is)) (sym (live place))
     (sym (counter place)) (sym (ap (map standing_of) (standing place))))
 
 pub returns-clause-lean : goal.returns-clause-lean
-returns-clause-lean c = λ rest l. c.apply.ensures.lean rest (c.remove_gone.ensures.lean rest l)
+returns-clause-lean c = λ rest l. c.apply_completion.ensures.lean rest (c.remove_gone.ensures.lean rest l)

@@ -3,7 +3,7 @@ use Rattle.ifmap_subscribes.specs.ifmap_changes.Between.{AreWithinLimits, AreOrd
 use Rattle.ifmap_core.specs.Completions.{CanApplyTo, WouldBeParts, after_completion, starts_in}
 use Rattle.ifmap_core.proofs.Applied.{accept_leaves, end_leaves, open_leaves, parts_moved, parts_renamed, poll_leaves, rename_leaves, say_leaves}
 use Rattle.ifmap_core.proofs.Applying.{former_ordered, live_begun, live_changed, live_first, ordered_beside, ordered_moved, within_begun, within_emptied, within_first, within_former, within_left, within_renewed, emptied_keeps}
-use Rattle.ifmap_core.proofs.completions.apply.Goals as goal
+use Rattle.ifmap_core.proofs.completions.apply_completion.Goals as goal
 use Rattle.ifmap_lemmas.specs.Options.{some_is}
 use Rattle.ifmap_session.specs.Sessions.{change, session_from, session_with_serial, with_last, without_items}
 use Rattle.ifmap_session.specs.laws.TableLaws.{renewed_keeps}
