@@ -65,7 +65,7 @@ fn request_on(alloc: Global, line: &[u8]) -> Result<Option<Request>, NoMemory>
 {
     bytes_spell_one_element();
     match read(alloc, line, LINE_LEVELS) {
-        Ok(reading) => request_in(alloc, &reading),
+        Ok(reading) => request_of_reading(alloc, &reading),
         Err(ReadError::NoMemory) => Err(NoMemory),
         Err(ReadError::Unreadable { .. }) => Ok(None),
         Err(ReadError::TooDeep { .. }) => Ok(None),
@@ -73,7 +73,7 @@ fn request_on(alloc: Global, line: &[u8]) -> Result<Option<Request>, NoMemory>
 }
 
 // The request that what was read means, if it means one.
-fn request_in(alloc: Global, reading: &Reading) -> Result<Option<Request>, NoMemory>
+fn request_of_reading(alloc: Global, reading: &Reading) -> Result<Option<Request>, NoMemory>
     ensures { IsReadRequest reading.now result }
 {
     elements_have_one_request_or_code();

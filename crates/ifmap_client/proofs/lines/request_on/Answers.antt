@@ -4,7 +4,7 @@ use Rattle.ifmap_client.proofs.lines.request_on.Goals as goal
 pub returns-in-Ok : goal.returns-in-Ok
 returns-in-Ok c =
     request_answer c.bytes_spell_one_element.ensures c.args.line.now c.in-Ok.reading c.in-Ok.ensures.answer.0
-    c.in-Ok.ensures.answer.1 c.request_in.result c.request_in.ensures
+    c.in-Ok.ensures.answer.1 c.request_of_reading.result c.request_of_reading.ensures
 
 pub returns-in-Err-Unreadable : goal.returns-in-Err-Unreadable
 returns-in-Err-Unreadable c =

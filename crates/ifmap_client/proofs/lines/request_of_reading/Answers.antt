@@ -1,5 +1,5 @@
 use Rattle.ifmap_client.proofs.LineLaws.{defect_is_no_request}
-use Rattle.ifmap_client.proofs.lines.request_in.Goals as goal
+use Rattle.ifmap_client.proofs.lines.request_of_reading.Goals as goal
 
 pub returns-in-Err-Named : goal.returns-in-Err-Named
 returns-in-Err-Named c =
