@@ -52,7 +52,7 @@ pub(crate) fn apply_op<V: Keyed>(
             elements,
             forever,
         } => {
-            let rows = rows_of(alloc, author, *forever, &elements.0)?;
+            let rows = rows_of_elements(alloc, author, *forever, &elements.0)?;
             attach_each(alloc, view, item, &rows, edit)?;
             Ok(())
         }
@@ -73,7 +73,7 @@ fn life_of(serial: u64, forever: bool) -> Life
 }
 
 // Elements as they are stored.
-fn rows_of(
+fn rows_of_elements(
     alloc: Global,
     author: &Author,
     forever: bool,
@@ -86,13 +86,13 @@ fn rows_of(
 {
     let mut rows = Vec::with_capacity(alloc, elements.len())?;
     for metadata in elements {
-        rows.push(row_of(alloc, author, forever, metadata)?)?;
+        rows.push(row_of_element(alloc, author, forever, metadata)?)?;
     }
     Ok(rows)
 }
 
 // An element as it is stored.
-fn row_of(
+fn row_of_element(
     alloc: Global,
     author: &Author,
     forever: bool,

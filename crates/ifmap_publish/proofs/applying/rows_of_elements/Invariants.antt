@@ -2,7 +2,7 @@ use Rattle.std.proofs.Common.{◌≡◌, map, take}
 use Rattle.std.specs.List.{AllByRecursion}
 use Rattle.ifmap_meta.specs.Whole.{IsWhole}
 use Rattle.ifmap_publish.specs.Apply.{stored_of}
-use Rattle.ifmap_publish.proofs.applying.rows_of.Given as goal
+use Rattle.ifmap_publish.proofs.applying.rows_of_elements.Given as goal
 
 abbrev pub invariant-loop-metadata : goal.invariant-loop-metadata
 invariant-loop-metadata l = record {
