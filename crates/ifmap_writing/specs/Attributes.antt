@@ -15,8 +15,8 @@ pub record NamedValue : Type 0 where
   pub local : List ℕ
   pub value : Option (List ℕ)
 
-abbrev pub row : List ℕ → Option (List ℕ) → NamedValue
-row local value = record { local = local; value = value }
+abbrev pub attribute_row : List ℕ → Option (List ℕ) → NamedValue
+attribute_row local value = record { local = local; value = value }
 
 abbrev pub written_attribute : List ℕ → Option (List ℕ) → List Attribute
 written_attribute local None = []
@@ -53,42 +53,42 @@ kinds_value (kind ∷ others) = Some (joined_texts (codes ",") kind_name (kind �
 -- ---- the attributes of the elements, in the order of their names
 
 abbrev pub session_rows : List ℕ → List NamedValue
-session_rows session = row (codes "session-id") (Some session) ∷ []
+session_rows session = attribute_row (codes "session-id") (Some session) ∷ []
 
 abbrev pub limit_rows : Option ℕ → List NamedValue
-limit_rows limit = row (codes "max-poll-result-size") (limit_value limit) ∷ []
+limit_rows limit = attribute_row (codes "max-poll-result-size") (limit_value limit) ∷ []
 
 abbrev pub purge_rows : List ℕ → List ℕ → List NamedValue
-purge_rows session publisher = row (codes "ifmap-publisher-id") (Some publisher) ∷ session_rows session
+purge_rows session publisher = attribute_row (codes "ifmap-publisher-id") (Some publisher) ∷ session_rows session
 
 abbrev pub lifetime_rows : Bool → List NamedValue
-lifetime_rows forever = row (codes "lifetime") (lifetime_value forever) ∷ []
+lifetime_rows forever = attribute_row (codes "lifetime") (lifetime_value forever) ∷ []
 
 abbrev pub filter_rows : List (List ℕ) → Option Filter → List NamedValue
-filter_rows spaces filter = row (codes "filter") (filter_value spaces filter) ∷ []
+filter_rows spaces filter = attribute_row (codes "filter") (filter_value spaces filter) ∷ []
 
 abbrev pub name_rows : List ℕ → List NamedValue
-name_rows name = row (codes "name") (Some name) ∷ []
+name_rows name = attribute_row (codes "name") (Some name) ∷ []
 
 -- the filter of links and the bounds of a search; those of the walk and of the result are always said
 abbrev pub bounds_rows : List (List ℕ) → Search → List NamedValue
 bounds_rows spaces search =
-    row (codes "match-links") (filter_value spaces search.match_links)
-    ∷ (row (codes "max-depth") (number_value search.max_depth)
-    ∷ (row (codes "max-size") (number_value search.max_size) ∷ []))
+    attribute_row (codes "match-links") (filter_value spaces search.match_links)
+    ∷ (attribute_row (codes "max-depth") (number_value search.max_depth)
+    ∷ (attribute_row (codes "max-size") (number_value search.max_size) ∷ []))
 
 -- of a search in a session
 abbrev pub search_rows : List (List ℕ) → List ℕ → Search → List NamedValue
 search_rows spaces session search =
     bounds_rows spaces search
-    ++ (row (codes "result-filter") (filter_value spaces search.result_filter)
-    ∷ (row (codes "session-id") (Some session)
-    ∷ (row (codes "terminal-identifier-type") (kinds_value search.terminal) ∷ [])))
+    ++ (attribute_row (codes "result-filter") (filter_value spaces search.result_filter)
+    ∷ (attribute_row (codes "session-id") (Some session)
+    ∷ (attribute_row (codes "terminal-identifier-type") (kinds_value search.terminal) ∷ [])))
 
 -- of a search under the name of a subscription
 abbrev pub subscription_rows : List (List ℕ) → List ℕ → Search → List NamedValue
 subscription_rows spaces name search =
     bounds_rows spaces search
-    ++ (row (codes "name") (Some name)
-    ∷ (row (codes "result-filter") (filter_value spaces search.result_filter)
-    ∷ (row (codes "terminal-identifier-type") (kinds_value search.terminal) ∷ [])))
+    ++ (attribute_row (codes "name") (Some name)
+    ∷ (attribute_row (codes "result-filter") (filter_value spaces search.result_filter)
+    ∷ (attribute_row (codes "terminal-identifier-type") (kinds_value search.terminal) ∷ [])))
