@@ -8,9 +8,9 @@ use std::alloc::{AllocError as NoMemory, Global};
 
 // An entry: the element on the address with that last byte.
 #[derive(Clone, Copy, Debug)]
-pub(crate) struct Told(pub u8, pub &'static str);
+pub(crate) struct GivenEntry(pub u8, pub &'static str);
 
-pub(crate) fn entry_of(alloc: Global, told: Told) -> Result<Entry, NoMemory> {
+pub(crate) fn entry_of(alloc: Global, told: GivenEntry) -> Result<Entry, NoMemory> {
     let address = Identifier::MacAddress {
         value: [0, 0, 0, 0, 0, told.0],
         domain: Text::new(alloc),
@@ -24,7 +24,7 @@ pub(crate) fn entry_of(alloc: Global, told: Told) -> Result<Entry, NoMemory> {
     })
 }
 
-pub(crate) fn entries_of(alloc: Global, told: &[Told]) -> Result<Many<Entry>, NoMemory> {
+pub(crate) fn entries_of(alloc: Global, told: &[GivenEntry]) -> Result<Many<Entry>, NoMemory> {
     let mut entries = Vec::new(alloc);
     for one in told {
         entries.push(entry_of(alloc, *one)?)?;
@@ -35,16 +35,20 @@ pub(crate) fn entries_of(alloc: Global, told: &[Told]) -> Result<Many<Entry>, No
 // What a poll can be told.
 #[derive(Clone, Copy, Debug)]
 pub(crate) enum Step {
-    Search(&'static str, &'static [Told]),
-    Update(&'static str, &'static [Told]),
-    Delete(&'static str, &'static [Told]),
-    Notify(&'static str, &'static [Told]),
+    Search(&'static str, &'static [GivenEntry]),
+    Update(&'static str, &'static [GivenEntry]),
+    Delete(&'static str, &'static [GivenEntry]),
+    Notify(&'static str, &'static [GivenEntry]),
     NamedError(&'static str),
     Error,
 }
 
 // A name with its entries.
-fn list_of(alloc: Global, name: &str, told: &[Told]) -> Result<(Text, Many<Entry>), NoMemory> {
+fn list_of(
+    alloc: Global,
+    name: &str,
+    told: &[GivenEntry],
+) -> Result<(Text, Many<Entry>), NoMemory> {
     let name = Text::from_str(alloc, name)?;
     Ok((name, entries_of(alloc, told)?))
 }

@@ -1,21 +1,21 @@
 //! The sets that a client folds.
-use crate::makers::{Step, Told, entry_of, item_of};
+use crate::makers::{GivenEntry, Step, entry_of, item_of};
 use ifmap_client::ClientSets;
 use ifmap_elem::Text;
 use ifmap_search::Entry;
 use std::alloc::{AllocError as NoMemory, Global};
 
-const E1: Told = Told(1, "<a/>");
+const E1: GivenEntry = GivenEntry(1, "<a/>");
 
-const E2: Told = Told(1, "<b/>");
+const E2: GivenEntry = GivenEntry(1, "<b/>");
 
-const E3: Told = Told(2, "<a/>");
+const E3: GivenEntry = GivenEntry(2, "<a/>");
 
 // What polls were told, a name, and what its set is then.
 struct Case {
     steps: &'static [Step],
     name: &'static str,
-    set: Option<&'static [Told]>,
+    set: Option<&'static [GivenEntry]>,
 }
 
 static CASES: [Case; 13] = [
@@ -118,12 +118,12 @@ fn fold_steps(alloc: Global, steps: &[Step]) -> Result<ClientSets, NoMemory> {
     Ok(sets)
 }
 
-fn is_entry(alloc: Global, entry: &Entry, told: Told) -> Result<bool, NoMemory> {
+fn is_entry(alloc: Global, entry: &Entry, told: GivenEntry) -> Result<bool, NoMemory> {
     let wanted = entry_of(alloc, told)?;
     Ok(entry.item.item() == wanted.item.item() && entry.element.bytes() == wanted.element.bytes())
 }
 
-fn are_entries(alloc: Global, entries: &[Entry], told: &[Told]) -> Result<bool, NoMemory> {
+fn are_entries(alloc: Global, entries: &[Entry], told: &[GivenEntry]) -> Result<bool, NoMemory> {
     if entries.len() != told.len() {
         return Ok(false);
     }
