@@ -1,5 +1,5 @@
 //! Copies of searches, entries and items that a poll is told.
-use crate::makers::{ALL_TOLD, Told, address_of, entries_of, entry_of, item_of};
+use crate::makers::{ALL_KINDS, ItemKind, address_of, entries_of, entry_of, item_of};
 use ifmap_elem::{Copied, Equals, Many, Name, Text};
 use ifmap_filter::{Filter, Test};
 use ifmap_ident::{Code, Kind};
@@ -108,7 +108,7 @@ fn a_search_equals_its_copy(rt: HostRuntime) -> Result<(), Fail> {
 // Which kind an item is, with its parts: its name, its entries or none, its code and note or none.
 #[derive(Clone, Copy)]
 struct Parts<'a> {
-    told: Told,
+    told: ItemKind,
     name: Option<&'a Text>,
     entries: Option<&'a Many<Entry>>,
     error: Option<(Code, &'a Text)>,
@@ -116,16 +116,16 @@ struct Parts<'a> {
 
 fn parts_of_item(item: &PollItem) -> Parts<'_> {
     let (told, name, entries) = match item {
-        PollItem::Search { name, entries } => (Told::Search, name, entries),
-        PollItem::Update { name, entries } => (Told::Update, name, entries),
-        PollItem::Delete { name, entries } => (Told::Delete, name, entries),
-        PollItem::Notify { name, entries } => (Told::Notify, name, entries),
+        PollItem::Search { name, entries } => (ItemKind::Search, name, entries),
+        PollItem::Update { name, entries } => (ItemKind::Update, name, entries),
+        PollItem::Delete { name, entries } => (ItemKind::Delete, name, entries),
+        PollItem::Notify { name, entries } => (ItemKind::Notify, name, entries),
         PollItem::Error { name, code, note } => {
             return Parts {
                 told: if name.is_some() {
-                    Told::NamedError
+                    ItemKind::NamedError
                 } else {
-                    Told::Error
+                    ItemKind::Error
                 },
                 name: name.as_ref(),
                 entries: None,
@@ -154,7 +154,7 @@ fn same_item(one: &PollItem, other: &PollItem) -> bool {
 #[test]
 fn what_a_poll_is_told_equals_its_copy(rt: HostRuntime) -> Result<(), Fail> {
     let alloc = rt.alloc();
-    for told in ALL_TOLD {
+    for told in ALL_KINDS {
         let item = item_of(alloc, told, 2)?;
         let copy = item.copy(alloc)?;
         assert!(rt; same_item(&copy, &item), "{told:?}");

@@ -59,7 +59,7 @@ pub(crate) fn entries_of(alloc: Global, count: usize) -> Result<Many<Entry>, NoM
 
 // What a poll is told, by its kind alone.
 #[derive(Clone, Copy, Debug, PartialEq, Eq)]
-pub(crate) enum Told {
+pub(crate) enum ItemKind {
     Search,
     Update,
     Delete,
@@ -68,37 +68,37 @@ pub(crate) enum Told {
     Error,
 }
 
-pub(crate) const ALL_TOLD: [Told; 6] = [
-    Told::Search,
-    Told::Update,
-    Told::Delete,
-    Told::Notify,
-    Told::NamedError,
-    Told::Error,
+pub(crate) const ALL_KINDS: [ItemKind; 6] = [
+    ItemKind::Search,
+    ItemKind::Update,
+    ItemKind::Delete,
+    ItemKind::Notify,
+    ItemKind::NamedError,
+    ItemKind::Error,
 ];
 
 // What a poll is told of the subscription `s`, with so many entries where it has any.
-pub(crate) fn item_of(alloc: Global, told: Told, count: usize) -> Result<PollItem, NoMemory> {
+pub(crate) fn item_of(alloc: Global, told: ItemKind, count: usize) -> Result<PollItem, NoMemory> {
     match told {
-        Told::NamedError | Told::Error => error_of(alloc, told),
+        ItemKind::NamedError | ItemKind::Error => error_of(alloc, told),
         _ => result_of(alloc, told, entries_of(alloc, count)?),
     }
 }
 
-fn result_of(alloc: Global, told: Told, entries: Many<Entry>) -> Result<PollItem, NoMemory> {
+fn result_of(alloc: Global, told: ItemKind, entries: Many<Entry>) -> Result<PollItem, NoMemory> {
     let name = Text::from_str(alloc, "s")?;
     match told {
-        Told::Search => Ok(PollItem::Search { name, entries }),
-        Told::Update => Ok(PollItem::Update { name, entries }),
-        Told::Delete => Ok(PollItem::Delete { name, entries }),
+        ItemKind::Search => Ok(PollItem::Search { name, entries }),
+        ItemKind::Update => Ok(PollItem::Update { name, entries }),
+        ItemKind::Delete => Ok(PollItem::Delete { name, entries }),
         _ => Ok(PollItem::Notify { name, entries }),
     }
 }
 
-fn error_of(alloc: Global, told: Told) -> Result<PollItem, NoMemory> {
+fn error_of(alloc: Global, told: ItemKind) -> Result<PollItem, NoMemory> {
     let code = Code::SearchResultsTooBig;
     let note = Text::from_str(alloc, "337 of 100")?;
-    let name = if told == Told::NamedError {
+    let name = if told == ItemKind::NamedError {
         Some(Text::from_str(alloc, "s")?)
     } else {
         None

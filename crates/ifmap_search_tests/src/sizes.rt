@@ -1,16 +1,16 @@
 //! The sizes of items that a poll is told.
-use crate::makers::{ALL_TOLD, Told, item_of};
+use crate::makers::{ALL_KINDS, ItemKind, item_of};
 use ifmap_search::{SearchError, poll_size};
 use std::test::Fail;
 
 #[test]
 fn the_size_is_100_and_that_of_the_entries(rt: HostRuntime) -> Result<(), Fail> {
     let alloc = rt.alloc();
-    for told in ALL_TOLD {
+    for told in ALL_KINDS {
         for (count, entries_size) in [(0, 0), (1, 237), (2, 474)] {
             let size = poll_size(&item_of(alloc, told, count)?);
             let wanted = match told {
-                Told::NamedError | Told::Error => 100,
+                ItemKind::NamedError | ItemKind::Error => 100,
                 _ => 100 + entries_size,
             };
             assert_eq!(rt; size, wanted, "{told:?} of {count}");
