@@ -9,7 +9,7 @@ use ifmap_session::Sessions;
 use std::alloc::{AllocError as NoMemory, Global};
 
 // The name of a subscription or none, and a code.
-type Told = (Option<&'static str>, Code);
+type GivenError = (Option<&'static str>, Code);
 
 fn name_of(alloc: Global, name: Option<&str>) -> Result<Option<Text>, NoMemory> {
     match name {
@@ -18,7 +18,7 @@ fn name_of(alloc: Global, name: Option<&str>) -> Result<Option<Text>, NoMemory> 
     }
 }
 
-fn error_of(alloc: Global, told: Told) -> Result<PollItem, NoMemory> {
+fn error_of(alloc: Global, told: GivenError) -> Result<PollItem, NoMemory> {
     let name = name_of(alloc, told.0)?;
     Ok(PollItem::Error {
         name,
@@ -27,7 +27,7 @@ fn error_of(alloc: Global, told: Told) -> Result<PollItem, NoMemory> {
     })
 }
 
-fn push_error(alloc: Global, sessions: &mut Sessions, serial: u64, told: Told) -> bool
+fn push_error(alloc: Global, sessions: &mut Sessions, serial: u64, told: GivenError) -> bool
     requires { IsLive serial sessions.old.live }
 {
     if sessions.queue_room(serial, 1).is_err() {
@@ -43,14 +43,14 @@ fn push_error(alloc: Global, sessions: &mut Sessions, serial: u64, told: Told) -
 }
 
 // Whether there was memory to put an error last in the queue of the client `c1`.
-fn queues(alloc: Global, sessions: &mut Sessions, told: Told) -> bool {
+fn queues(alloc: Global, sessions: &mut Sessions, told: GivenError) -> bool {
     match serial_for(alloc, sessions, "c1") {
         Some(serial) => push_error(alloc, sessions, serial, told),
         None => false,
     }
 }
 
-fn replace_by_error(alloc: Global, sessions: &mut Sessions, serial: u64, told: Told) -> bool
+fn replace_by_error(alloc: Global, sessions: &mut Sessions, serial: u64, told: GivenError) -> bool
     requires { IsLive serial sessions.old.live }
 {
     if sessions.queue_room(serial, 1).is_err() {
@@ -66,7 +66,7 @@ fn replace_by_error(alloc: Global, sessions: &mut Sessions, serial: u64, told: T
 }
 
 // Whether there was memory to put an error in place of all that is queued.
-fn overflows(alloc: Global, sessions: &mut Sessions, told: Told) -> bool {
+fn overflows(alloc: Global, sessions: &mut Sessions, told: GivenError) -> bool {
     match serial_for(alloc, sessions, "c1") {
         Some(serial) => replace_by_error(alloc, sessions, serial, told),
         None => false,
@@ -106,18 +106,18 @@ fn is_name(name: &Option<Text>, wanted: Option<&str>) -> bool {
     }
 }
 
-fn is_error(item: &PollItem, told: &Told) -> bool {
+fn is_error(item: &PollItem, told: &GivenError) -> bool {
     match item {
         PollItem::Error { name, code, .. } => is_name(name, told.0) && *code == told.1,
         _ => false,
     }
 }
 
-fn are_errors(items: &[PollItem], told: &[Told]) -> bool {
+fn are_errors(items: &[PollItem], told: &[GivenError]) -> bool {
     items.len() == told.len() && (0..items.len()).all(|i| is_error(&items[i], &told[i]))
 }
 
-fn take_errors(sessions: &mut Sessions, serial: u64, told: &[Told]) -> bool
+fn take_errors(sessions: &mut Sessions, serial: u64, told: &[GivenError]) -> bool
     requires { IsLive serial sessions.old.live }
 {
     let items = sessions.take_all(serial);
@@ -125,7 +125,7 @@ fn take_errors(sessions: &mut Sessions, serial: u64, told: &[Told]) -> bool
 }
 
 // Whether these errors are taken, and nothing else.
-fn takes(alloc: Global, sessions: &mut Sessions, told: &[Told]) -> bool {
+fn takes(alloc: Global, sessions: &mut Sessions, told: &[GivenError]) -> bool {
     match serial_for(alloc, sessions, "c1") {
         Some(serial) => take_errors(sessions, serial, told),
         None => false,
@@ -136,7 +136,7 @@ fn is_size(alloc: Global, sessions: &Sessions, size: u64) -> bool {
     has_size(alloc, sessions, "c1", size, 5_000_000)
 }
 
-static QUEUED: [Told; 4] = [
+static QUEUED: [GivenError; 4] = [
     (Some("s"), Code::SearchResultsTooBig),
     (None, Code::SearchResultsTooBig),
     (Some("t"), Code::SearchResultsTooBig),
@@ -161,7 +161,7 @@ fn a_queue_is_filled_and_handed_out_in_order(rt: HostRuntime) {
     assert!(rt; is_size(alloc, &sessions, 0));
 }
 
-static OVERFLOWN: [Told; 1] = [(None, Code::PollResultsTooBig)];
+static OVERFLOWN: [GivenError; 1] = [(None, Code::PollResultsTooBig)];
 
 #[test]
 fn one_error_stands_in_place_of_a_queue(rt: HostRuntime) {
