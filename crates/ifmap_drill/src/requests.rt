@@ -47,7 +47,7 @@ pub fn request_by(
         }
         Task::Search => Ok(Request::Search {
             session,
-            search: search_from(alloc, client, 1),
+            search: search_near(alloc, client, 1),
         }),
         Task::Poll => Ok(Request::Poll { session }),
         Task::Renew => Ok(Request::RenewSession { session }),
@@ -93,13 +93,13 @@ fn subscribe_request(alloc: Global, client: u32, session: Text) -> Result<Reques
     let mut ops = Many::new(alloc);
     ops.push(SubscribeOp::Update {
         name,
-        search: search_from(alloc, client, SUBSCRIPTION_DEPTH),
+        search: search_near(alloc, client, SUBSCRIPTION_DEPTH),
     })?;
     Ok(Request::Subscribe { session, ops })
 }
 
 // What is within so many links of a client's own address.
-fn search_from(alloc: Global, client: u32, depth: u32) -> Search
+fn search_near(alloc: Global, client: u32, depth: u32) -> Search
     requires { client < client_count }
     ensures { result ≡ drill_search client depth }
 {
