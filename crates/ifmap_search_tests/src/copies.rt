@@ -108,21 +108,21 @@ fn a_search_equals_its_copy(rt: HostRuntime) -> Result<(), Fail> {
 // Which kind an item is, with its parts: its name, its entries or none, its code and note or none.
 #[derive(Clone, Copy)]
 struct Parts<'a> {
-    told: ItemKind,
+    kind: ItemKind,
     name: Option<&'a Text>,
     entries: Option<&'a Many<Entry>>,
     error: Option<(Code, &'a Text)>,
 }
 
 fn parts_of_item(item: &PollItem) -> Parts<'_> {
-    let (told, name, entries) = match item {
+    let (kind, name, entries) = match item {
         PollItem::Search { name, entries } => (ItemKind::Search, name, entries),
         PollItem::Update { name, entries } => (ItemKind::Update, name, entries),
         PollItem::Delete { name, entries } => (ItemKind::Delete, name, entries),
         PollItem::Notify { name, entries } => (ItemKind::Notify, name, entries),
         PollItem::Error { name, code, note } => {
             return Parts {
-                told: if name.is_some() {
+                kind: if name.is_some() {
                     ItemKind::NamedError
                 } else {
                     ItemKind::Error
@@ -134,7 +134,7 @@ fn parts_of_item(item: &PollItem) -> Parts<'_> {
         }
     };
     Parts {
-        told,
+        kind,
         name: Some(name),
         entries: Some(entries),
         error: None,
@@ -148,17 +148,17 @@ fn same_item(one: &PollItem, other: &PollItem) -> bool {
         (None, None) => true,
         _ => false,
     };
-    entries && one.told == other.told && one.name == other.name && one.error == other.error
+    entries && one.kind == other.kind && one.name == other.name && one.error == other.error
 }
 
 #[test]
 fn what_a_poll_is_told_equals_its_copy(rt: HostRuntime) -> Result<(), Fail> {
     let alloc = rt.alloc();
-    for told in ALL_KINDS {
-        let item = item_of(alloc, told, 2)?;
+    for kind in ALL_KINDS {
+        let item = item_of(alloc, kind, 2)?;
         let copy = item.copy(alloc)?;
-        assert!(rt; same_item(&copy, &item), "{told:?}");
-        assert_eq!(rt; parts_of_item(&copy).told, told);
+        assert!(rt; same_item(&copy, &item), "{kind:?}");
+        assert_eq!(rt; parts_of_item(&copy).kind, kind);
     }
     Ok(())
 }

@@ -78,16 +78,16 @@ pub(crate) const ALL_KINDS: [ItemKind; 6] = [
 ];
 
 // What a poll is told of the subscription `s`, with so many entries where it has any.
-pub(crate) fn item_of(alloc: Global, told: ItemKind, count: usize) -> Result<PollItem, NoMemory> {
-    match told {
-        ItemKind::NamedError | ItemKind::Error => error_of(alloc, told),
-        _ => result_of(alloc, told, entries_of(alloc, count)?),
+pub(crate) fn item_of(alloc: Global, kind: ItemKind, count: usize) -> Result<PollItem, NoMemory> {
+    match kind {
+        ItemKind::NamedError | ItemKind::Error => error_of(alloc, kind),
+        _ => result_of(alloc, kind, entries_of(alloc, count)?),
     }
 }
 
-fn result_of(alloc: Global, told: ItemKind, entries: Many<Entry>) -> Result<PollItem, NoMemory> {
+fn result_of(alloc: Global, kind: ItemKind, entries: Many<Entry>) -> Result<PollItem, NoMemory> {
     let name = Text::from_str(alloc, "s")?;
-    match told {
+    match kind {
         ItemKind::Search => Ok(PollItem::Search { name, entries }),
         ItemKind::Update => Ok(PollItem::Update { name, entries }),
         ItemKind::Delete => Ok(PollItem::Delete { name, entries }),
@@ -95,10 +95,10 @@ fn result_of(alloc: Global, told: ItemKind, entries: Many<Entry>) -> Result<Poll
     }
 }
 
-fn error_of(alloc: Global, told: ItemKind) -> Result<PollItem, NoMemory> {
+fn error_of(alloc: Global, kind: ItemKind) -> Result<PollItem, NoMemory> {
     let code = Code::SearchResultsTooBig;
     let note = Text::from_str(alloc, "337 of 100")?;
-    let name = if told == ItemKind::NamedError {
+    let name = if kind == ItemKind::NamedError {
         Some(Text::from_str(alloc, "s")?)
     } else {
         None

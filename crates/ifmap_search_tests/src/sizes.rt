@@ -6,14 +6,14 @@ use std::test::Fail;
 #[test]
 fn the_size_is_100_and_that_of_the_entries(rt: HostRuntime) -> Result<(), Fail> {
     let alloc = rt.alloc();
-    for told in ALL_KINDS {
+    for kind in ALL_KINDS {
         for (count, entries_size) in [(0, 0), (1, 237), (2, 474)] {
-            let size = poll_size(&item_of(alloc, told, count)?);
-            let wanted = match told {
+            let size = poll_size(&item_of(alloc, kind, count)?);
+            let wanted = match kind {
                 ItemKind::NamedError | ItemKind::Error => 100,
                 _ => 100 + entries_size,
             };
-            assert_eq!(rt; size, wanted, "{told:?} of {count}");
+            assert_eq!(rt; size, wanted, "{kind:?} of {count}");
         }
     }
     Ok(())
