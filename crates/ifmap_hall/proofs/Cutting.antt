@@ -11,7 +11,7 @@ use Rattle.atomic_table.proofs.Lists.{at_set, set_else, at_snoc, at_longer}
 use Rattle.ifmap_hall.specs.Histories.{Ordered}
 use Rattle.ifmap_hall.specs.Places.{times}
 use Rattle.ifmap_hall.specs.Rule.{Homes, Sits, SeatFits, AtHome, IsAway, IsInTurn, Keeps}
-use Rattle.ifmap_hall.specs.SeatViews.{share, tickets_of, holds_book, kept_seat, given_seat}
+use Rattle.ifmap_hall.specs.SeatViews.{share_of, tickets_of, holds_book, kept_seat, given_seat}
 use Rattle.ifmap_hall.specs.declared.view.HallHistory.{HallHistory}
 use Rattle.ifmap_hall.specs.declared.view.SeatView.{SeatView}
 use Rattle.ifmap_hall.specs.declared.view.Stage.TheVariants.{Idle}
@@ -21,7 +21,7 @@ use Rattle.ifmap_lemmas.specs.Elements.{place_within}
 use Rattle.ifmap_lemmas.specs.Sums.{sum_set}
 use Rattle.ifmap_hall.proofs.Passing.{extends-none}
 
-pub share_within : (p : ℕ) → 1 < p → (0 < share p) × (share p < p)
+pub share_within : (p : ℕ) → 1 < p → (0 < share_of p) × (share_of p < p)
 share_within p h = elim (cases_lt p 65536) [
   | inl l ↦ let a : nat_lt p 65536 ≡ true = grind (arith, nat_tests) in rw a (omega arith, omega arith)
   | inr g ↦
@@ -81,10 +81,10 @@ module _ {M E R : Type 0} (next : M → E → M) (weight : E → ℕ) where
         → (x.view.mine ≡ []) × (holds_book x.stage ≡ false)
     cut_spent i x (is_kept p e) z =
         let a = (share_within s.parts parts).0 in let b = (share_within s.parts parts).1 in
-        let q : s.parts - share s.parts ≡ x.parts = ap (λ (y : SeatView M E R). y.parts) e in absurd (omega arith)
+        let q : s.parts - share_of s.parts ≡ x.parts = ap (λ (y : SeatView M E R). y.parts) e in absurd (omega arith)
     cut_spent i x (is_given e) z =
         let a = (share_within s.parts parts).0 in
-        let q : share s.parts ≡ x.parts = ap (λ (y : SeatView M E R). y.parts) e in absurd (omega arith)
+        let q : share_of s.parts ≡ x.parts = ap (λ (y : SeatView M E R). y.parts) e in absurd (omega arith)
     cut_spent i x (is_old n e) z = k.spent i x e z
 
     cut_waits : (i : ℕ) (x : SeatView M E R) → Place seats id (kept_seat s) (given_seat s) i x → tickets_of x.stage ≡ 1 → Sits seats i x

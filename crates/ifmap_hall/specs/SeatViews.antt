@@ -42,8 +42,8 @@ abbrev pub share_divisor : ℕ
 share_divisor = 65536
 
 -- how many parts a new seat gets
-abbrev pub share : ℕ → ℕ
-share parts = if nat_lt parts share_divisor then 1 else parts / share_divisor
+abbrev pub share_of : ℕ → ℕ
+share_of parts = if nat_lt parts share_divisor then 1 else parts / share_divisor
 
 -- how many parts the first seat has, which are all that there are
 abbrev pub all_parts : ℕ
@@ -64,11 +64,11 @@ module _ {M E R : Type 0} where
 
   -- after a seat was split from
   abbrev pub kept_seat : SeatView M E R → SeatView M E R
-  kept_seat s = record s { view = kept_view s.view; parts = s.parts - share s.parts }
+  kept_seat s = record s { view = kept_view s.view; parts = s.parts - share_of s.parts }
 
   -- the seat that was split off
   abbrev pub given_seat : SeatView M E R → SeatView M E R
-  given_seat s = record { view = given_view s.view; parts = share s.parts; stage = Idle; joined = no_history }
+  given_seat s = record { view = given_view s.view; parts = share_of s.parts; stage = Idle; joined = no_history }
 
   -- after another seat was joined to it
   abbrev pub joint_seat : SeatView M E R → SeatView M E R → SeatView M E R

@@ -4,7 +4,7 @@ ghost use Rattle.ifmap_hall.specs.Books.{sight_of, IsBook};
 ghost use Rattle.ifmap_hall.specs.Sights.{CarriesOn};
 ghost use Rattle.ifmap_hall.specs.Places.{times};
 ghost use Rattle.ifmap_hall.specs.Plays.{FindsBook};
-ghost use Rattle.ifmap_hall.specs.SeatViews.{share};
+ghost use Rattle.ifmap_hall.specs.SeatViews.{share_of};
 ghost use Rattle.ifmap_hall.specs.Views.{first_view, kept_view, given_view, joint_view};
 ghost use Rattle.ifmap_hall.specs.Views.{sight_by, IsSoundView};
 ghost use Rattle.ifmap_hall.specs.HallAsks.{TookATurn, AnsweredFromHistory, AnsweredFromBase};
@@ -27,7 +27,7 @@ const SHARE_DIVISOR: u64 = 65_536;
 
 // How many of its parts a pass gives to one that is split from it.
 fn share_of(parts: u64) -> u64
-    ensures { result ≡ share parts }
+    ensures { result ≡ share_of parts }
 {
     if parts < SHARE_DIVISOR {
         1
@@ -103,7 +103,7 @@ where
         ensures given_hall { IfOk result (λ p. IsOf self.now p) }
         ensures sound { IsSoundView (view_of pass.new) }
         ensures given_sound { IfOk result (λ p. IsSoundView (view_of p)) }
-        ensures parts { IfOk result (λ p. (pass_parts p ≡ share (pass_parts pass.old))
+        ensures parts { IfOk result (λ p. (pass_parts p ≡ share_of (pass_parts pass.old))
             × (pass_parts pass.new + pass_parts p ≡ pass_parts pass.old)) }
         ensures err { OnErr result ((view_of pass.new ≡ view_of pass.old)
             × (pass_parts pass.new ≡ pass_parts pass.old)) }
