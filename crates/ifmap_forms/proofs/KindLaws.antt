@@ -2,7 +2,7 @@
 -- 1. White space at the front and at the end.
 -- 2. The first comma cuts the first piece off.
 -- 3. What is found of the other pieces comes after the first.
-use Rattle.std.proofs.Common.{◌≡◌, ◌∙◌, ℕ, ◌+◌, ◌-◌, ◌<◌, suc, Bool, true, false, not, cond, List, [], ◌∷◌, None, Result, Ok, Err, length, get_or, take, drop, reverse, inl, inr, refl, ap, arith, subst, sym}
+use Rattle.std.proofs.Common.{◌≡◌, ◌∙◌, ℕ, ◌+◌, ◌-◌, ◌<◌, Bool, true, false, cond, List, [], ◌∷◌, None, Result, Ok, Err, length, get_or, take, drop, reverse, inl, inr, refl, ap, arith, subst, sym}
 use Rattle.std.specs.Prelude.{◌==◌}
 use Rattle.std.specs.List.{position, position_or_len}
 use Rattle.std.specs.Str.{byte}
@@ -17,7 +17,8 @@ use Rattle.ifmap_forms.specs.declared.errors.FormError.TheVariants.{Named, NoMem
 use Rattle.ifmap_forms.specs.Answers.{IsCheckRefusal}
 use Rattle.ifmap_forms.specs.Gathering.{after_made}
 use Rattle.ifmap_forms.specs.PositionLaws.{at_place, no_place, place_inside, place_is}
-use Rattle.ifmap_forms.specs.Values.{begins_white, kinds_check, piece_check, pieces_of, with_first}
+use Rattle.ifmap_lemmas.specs.Separated.{comma_parts, part_before, part_of_all}
+use Rattle.ifmap_forms.specs.Values.{begins_white, kinds_check, piece_check}
 
 -- ---- 1. white space
 
@@ -48,35 +49,10 @@ solid_back text h = sym (reverse-reverse text) ∙ ap reverse (solid_front (reve
 abbrev is_comma : ℕ → Bool
 is_comma b = b == byte ","
 
-cut_step : (t : Bool) (b : ℕ) (bs : List ℕ) (k : ℕ) → cond (not t) (1 + k) 0 < length (b ∷ bs)
-    → (k < length bs → pieces_of bs ≡ take k bs ∷ pieces_of (drop (k + 1) bs))
-    → cond t ([] ∷ pieces_of bs) (with_first b (pieces_of bs))
-    ≡ take (cond (not t) (1 + k) 0) (b ∷ bs) ∷ pieces_of (drop (cond (not t) (1 + k) 0 + 1) (b ∷ bs))
-cut_step true b bs k some ih = refl
-cut_step false b bs k some ih =
-    let below : k < length bs = omega arith in
-    let one : suc k ≡ 1 + k = omega arith in
-    let two : suc (k + 1) ≡ 1 + k + 1 = omega arith in
-    ap (with_first b) (ih below) ∙ (λ i. take (one i) (b ∷ bs) ∷ pieces_of (drop (two i) (b ∷ bs)))
-
-cut_at : (text : List ℕ) → position_or_len is_comma text < length text
-    → pieces_of text ≡ take (position_or_len is_comma text) text ∷ pieces_of (drop (position_or_len is_comma text + 1) text)
-cut_at [] some = absurd (omega arith)
-cut_at (b ∷ bs) some = cut_step (is_comma b) b bs (position_or_len is_comma bs) some (λ below. cut_at bs below)
-
-whole_step : (t : Bool) (b : ℕ) (bs : List ℕ) (k : ℕ) → cond (not t) (1 + k) 0 ≡ length (b ∷ bs) → (k ≡ length bs → pieces_of bs ≡ bs ∷ [])
-    → cond t ([] ∷ pieces_of bs) (with_first b (pieces_of bs)) ≡ (b ∷ bs) ∷ []
-whole_step true b bs k none ih = absurd (omega arith)
-whole_step false b bs k none ih = let same : k ≡ length bs = omega arith in ap (with_first b) (ih same)
-
-whole_piece : (text : List ℕ) → position_or_len is_comma text ≡ length text → pieces_of text ≡ text ∷ []
-whole_piece [] none = refl
-whole_piece (b ∷ bs) none = whole_step (is_comma b) b bs (position_or_len is_comma bs) none (λ same. whole_piece bs same)
-
 -- what the first comma cuts off
 pub record IsCut (text : List ℕ) (end : ℕ) : Type 0 where
   pub inside : end < length text
-  pub pieces : pieces_of text ≡ take end text ∷ pieces_of (drop (end + 1) text)
+  pub pieces : comma_parts text ≡ take end text ∷ comma_parts (drop (end + 1) text)
 
 pub comma_found : (text : List ℕ) (end : ℕ) → at_place end ≡ position is_comma text → IsCut text end
 comma_found text end h =
@@ -85,11 +61,11 @@ comma_found text end h =
     let below : position_or_len is_comma text < length text = subst (λ (n : ℕ). n < length text) (sym is) inside in
     record {
       inside = inside;
-      pieces = subst (λ (n : ℕ). pieces_of text ≡ take n text ∷ pieces_of (drop (n + 1) text)) is (cut_at text below);
+      pieces = subst (λ (n : ℕ). comma_parts text ≡ take n text ∷ comma_parts (drop (n + 1) text)) is (part_before (byte ",") text below);
     }
 
-pub no_comma : (text : List ℕ) → None ≡ position is_comma text → pieces_of text ≡ text ∷ []
-no_comma text h = whole_piece text (no_place is_comma text h)
+pub no_comma : (text : List ℕ) → None ≡ position is_comma text → comma_parts text ≡ text ∷ []
+no_comma text h = part_of_all (byte ",") text (no_place is_comma text h)
 
 -- ---- 3. kinds
 

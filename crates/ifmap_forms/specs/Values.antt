@@ -1,9 +1,10 @@
 -- What the values of attributes mean: the attributes of requests in the IF-MAP binding for SOAP, version 2.2, section 3.
-use Rattle.std.specs.Prelude.{ℕ, ◌^◌, Bool, true, false, not, ◌&&◌, ◌==◌, nat_le, nat_lt, min, max, if◌then◌else◌, List, [], ◌∷◌, codes, length, reverse, Option, None, Some, Ok, Err}
+use Rattle.std.specs.Prelude.{ℕ, ◌^◌, Bool, true, false, not, ◌&&◌, nat_le, nat_lt, min, max, List, [], ◌∷◌, codes, length, reverse, Option, None, Some, Ok, Err}
 use Rattle.std.specs.List.{find, list_all}
 use Rattle.std.specs.Char.{is_ascii_digit}
-use Rattle.std.specs.Str.{byte, bytes_eq}
+use Rattle.std.specs.Str.{bytes_eq}
 use Rattle.std.specs.Str.Parse.{digits_value}
+use Rattle.ifmap_lemmas.specs.Separated.{comma_parts}
 use Rattle.ifmap_elem.specs.Chars.{is_white}
 use Rattle.ifmap_elem.specs.declared.elements.Element.{Element}
 use Rattle.ifmap_ident.specs.ifmap_reader.declared.scoping.Scope.{Scope}
@@ -141,15 +142,6 @@ filter_field local = record { local = local; reads = read_filter }
 
 -- ---- kinds of identifiers, with commas between them
 
-abbrev pub with_first : ℕ → List (List ℕ) → List (List ℕ)
-with_first b [] = (b ∷ []) ∷ []
-with_first b (piece ∷ pieces) = (b ∷ piece) ∷ pieces
-
--- the pieces of a text between its commas
-abbrev pub pieces_of : List ℕ → List (List ℕ)
-pieces_of [] = [] ∷ []
-pieces_of (b ∷ bs) = if b == byte "," then [] ∷ pieces_of bs else with_first b (pieces_of bs)
-
 -- white space is at the front
 abbrev pub begins_white : List ℕ → Bool
 begins_white [] = false
@@ -173,7 +165,7 @@ kinds_check (piece ∷ pieces) =
 -- the kinds from which no walk goes on; a blank text names none
 abbrev pub read_kinds : Option (List ℕ) → Check (List Kind)
 read_kinds None = pass []
-read_kinds (Some text) = check_if (list_all is_white text) (pass []) (kinds_check (pieces_of text))
+read_kinds (Some text) = check_if (list_all is_white text) (pass []) (kinds_check (comma_parts text))
 
 abbrev pub kinds_field : Field (List Kind)
 kinds_field = record { local = codes "terminal-identifier-type"; reads = λ scope. read_kinds }

@@ -5,7 +5,8 @@ ghost use Rattle.std.specs.List.{position};
 ghost use Rattle.std.specs.Str.{byte};
 ghost use Rattle.ifmap_filter.specs.Tokens.{without_white};
 ghost use Rattle.ifmap_forms.specs.Answers.{IsChecked};
-ghost use Rattle.ifmap_forms.specs.Values.{begins_white, kind_named, kinds_check, piece_check, pieces_of, read_kinds, trim_white};
+ghost use Rattle.ifmap_lemmas.specs.Separated.{comma_parts};
+ghost use Rattle.ifmap_forms.specs.Values.{begins_white, kind_named, kinds_check, piece_check, read_kinds, trim_white};
 
 use crate::errors::FormError;
 use ifmap_elem::Many;
@@ -27,7 +28,7 @@ pub fn kinds_in(alloc: Global, text: &[u8]) -> Result<Many<Kind>, FormError>
 }
 
 fn kinds_of_pieces(alloc: Global, text: &[u8]) -> Result<Many<Kind>, FormError>
-    ensures { IsChecked (kinds_check (pieces_of text.now)) result }
+    ensures { IsChecked (kinds_check (comma_parts text.now)) result }
 {
     let mut kinds = Vec::new(alloc);
     let mut rest = text;
@@ -41,9 +42,9 @@ fn kinds_of_pieces(alloc: Global, text: &[u8]) -> Result<Many<Kind>, FormError>
 
 // The first piece and what stands after its comma; `None` where there is no comma.
 fn cut_piece(text: &[u8]) -> Option<(&[u8], &[u8])>
-    ensures pieces { IfSome result (λ cut. pieces_of text.now ≡ cut.0.now ∷ pieces_of cut.1.now) }
+    ensures pieces { IfSome result (λ cut. comma_parts text.now ≡ cut.0.now ∷ comma_parts cut.1.now) }
     ensures shorter { IfSome result (λ cut. length cut.1.now < length text.now) }
-    ensures whole { IfNone result (pieces_of text.now ≡ text.now ∷ []) }
+    ensures whole { IfNone result (comma_parts text.now ≡ text.now ∷ []) }
 {
     match comma_in(text) {
         Some(end) => Some((take_front(text, end), rest_from(text, end + 1))),

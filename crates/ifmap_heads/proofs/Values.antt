@@ -1,7 +1,6 @@
 -- What the values of fields say.
-use Rattle.std.proofs.Common.{◌≡◌, ℕ, ◌+◌, ◌-◌, ◌*◌, ◌^◌, ◌<◌, ◌≤◌, Bool, true, false, List, [], ◌∷◌, ◌++◌, length, get_or, take, drop, refl, sym, ap, ◌∙◌, arith, add-one}
-use Rattle.std.proofs.lemmas.Bool.{not-true, and_parts}
-use Rattle.std.specs.Prelude.{◌&&◌, ◌==◌, not}
+use Rattle.std.proofs.Common.{◌≡◌, ℕ, ◌+◌, ◌-◌, ◌*◌, ◌^◌, ◌<◌, ◌≤◌, Bool, true, List, length, get_or, take, drop, refl, sym, ap, ◌∙◌, arith, add-one}
+use Rattle.std.specs.Prelude.{◌&&◌}
 use Rattle.std.specs.Char.{digit_value, is_ascii_digit}
 use Rattle.std.specs.List.{list_all}
 use Rattle.std.specs.Str.Parse.{digits_value}
@@ -11,7 +10,7 @@ use Rattle.std.proofs.lemmas.Int.Digits.{digits_value_push}
 use Rattle.std.proofs.lemmas.List.{take_more}
 use Rattle.std.proofs.lemmas.List.Folds.{list_all-append}
 use Rattle.ifmap_lemmas.specs.Letters.{digit_between}
-use Rattle.ifmap_heads.specs.Fields.{comma_parts}
+use Rattle.ifmap_lemmas.specs.Separated.{lacks}
 
 pub room_for_digit : (n i : ℕ) → n < 10 ^ i → i < 18 → n * 10 + 9 < 2 ^ 64
 room_for_digit n i less few =
@@ -40,18 +39,4 @@ digit_pushed value i number d within is less all low high digit =
 
 -- no comma stands among the bytes
 abbrev pub lacks_comma : List ℕ → Bool
-lacks_comma bytes = list_all (λ b. not (b == 44)) bytes
-
-pub part_at : (front rest : List ℕ) → lacks_comma front ≡ true → comma_parts (front ++ 44 ∷ rest) ≡ front ∷ comma_parts rest
-part_at [] rest e = refl
-part_at (b ∷ front) rest e =
-    let parts = and_parts (not (b == 44)) (lacks_comma front) e in
-    let other = not-true (b == 44) parts.0 in
-    rw (other, part_at front rest parts.1)
-
-pub part_alone : (bytes : List ℕ) → lacks_comma bytes ≡ true → comma_parts bytes ≡ bytes ∷ []
-part_alone [] e = refl
-part_alone (b ∷ bytes) e =
-    let parts = and_parts (not (b == 44)) (lacks_comma bytes) e in
-    let other = not-true (b == 44) parts.0 in
-    rw (other, part_alone bytes parts.1)
+lacks_comma bytes = lacks 44 bytes

@@ -4,8 +4,8 @@ use Rattle.std.specs.Char.{is_ascii_digit}
 use Rattle.std.specs.List.{filter, list_all, list_any}
 use Rattle.std.specs.Str.{str_eq_ignore_ascii_case}
 use Rattle.std.specs.Str.Parse.{digits_value}
-use Rattle.httparse.specs.Ascii.{comma}
 use Rattle.httparse.specs.Grammar.{trim_ows}
+use Rattle.ifmap_lemmas.specs.Separated.{comma_parts}
 
 -- the fields of a head: each one's name, and its value without the white space round it
 abbrev pub Fields : Type 0
@@ -22,16 +22,6 @@ values name fields = map (λ field. field.1) (filter (is_field_named name) field
 -- there is a field of that name
 abbrev pub has_field : List ℕ → Fields → Bool
 has_field name fields = nat_lt 0 (length (values name fields))
-
--- a byte before the parts of a list
-abbrev pub put_byte_before : ℕ → List (List ℕ) → List (List ℕ)
-put_byte_before b [] = (b ∷ []) ∷ []
-put_byte_before b (part ∷ parts) = (b ∷ part) ∷ parts
-
--- what stands between the commas
-abbrev pub comma_parts : List ℕ → List (List ℕ)
-comma_parts [] = [] ∷ []
-comma_parts (b ∷ bytes) = if b == comma then [] ∷ comma_parts bytes else put_byte_before b (comma_parts bytes)
 
 -- a value lists the word, in any ASCII case
 abbrev pub lists_word : List ℕ → List ℕ → Bool

@@ -6,7 +6,8 @@ ghost use Rattle.std.specs.Str.{bytes_eq, str_eq_ignore_ascii_case};
 ghost use Rattle.std.specs.Str.Parse.{digits_value};
 ghost use Rattle.httparse.specs.Borrowed.{header_parts};
 ghost use Rattle.httparse.specs.Grammar.{skip_ows, trim_ows};
-ghost use Rattle.ifmap_heads.specs.Fields.{comma_parts, common_length, has_field, is_length, lists_word, values, writes_number};
+ghost use Rattle.ifmap_lemmas.specs.Separated.{comma_parts};
+ghost use Rattle.ifmap_heads.specs.Fields.{common_length, has_field, is_length, lists_word, values, writes_number};
 
 use httparse::{Header, is_space_or_tab};
 

@@ -39,7 +39,8 @@ use Rattle.ifmap_forms.specs.Tables.{ContentCheck, ElementForm, Part, AttributeT
 use Rattle.ifmap_forms.specs.Tables.{no_children, element_parts, read_form, only_member}
 use Rattle.ifmap_forms.specs.Values.{greatest_limit, greatest_size, least_limit, longest_name, publisher_field, session_field, usual_size}
 use Rattle.ifmap_forms.specs.Values.{Field, depth_field, field_check, filter_check, filter_field, kind_named, kinds_check, kinds_field}
-use Rattle.ifmap_forms.specs.Values.{lifetime_field, limit_field, name_field, number_of_digits, piece_check, pieces_of, size_field, text_field}
+use Rattle.ifmap_lemmas.specs.Separated.{comma_parts}
+use Rattle.ifmap_forms.specs.Values.{lifetime_field, limit_field, name_field, number_of_digits, piece_check, size_field, text_field}
 use Rattle.ifmap_forms.specs.Values.{trim_white, within_range}
 use Rattle.ifmap_forms.specs.IdentifierLaws.{identifiers_done}
 use Rattle.ifmap_requests.specs.Published.{metadata_check, published_content, published_from}
@@ -160,7 +161,7 @@ pieces_done (piece ∷ pieces) =
 kinds_done : FieldDone kinds_field
 kinds_done scope None is = pass_done []
 kinds_done scope (Some text) is =
-    if_done (list_all is_white text) (pass []) (kinds_check (pieces_of text)) (pass_done []) (pieces_done (pieces_of text))
+    if_done (list_all is_white text) (pass []) (kinds_check (comma_parts text)) (pass_done []) (pieces_done (comma_parts text))
 
 module _ (decided : FilterOrStop) (apart : StopsWhereNone) where
   filter_found : (scope : Scope) (text : List ℕ) → ((filter : Filter) × WritesFilter text scope filter) ⊎ ((at : ℕ) × StopsAt text scope at)

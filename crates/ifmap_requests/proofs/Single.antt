@@ -31,7 +31,8 @@ use Rattle.ifmap_forms.specs.SingleLaws.{no_attributes_single, no_children_singl
 use Rattle.ifmap_forms.specs.Tables.{table_with, both, form_or, list_of, no_attributes}
 use Rattle.ifmap_forms.specs.Values.{greatest_limit, greatest_size, least_limit, longest_name, publisher_field, session_field, usual_size}
 use Rattle.ifmap_forms.specs.Values.{FilterDefect, depth_field, filter_check, filter_field, kinds_field, lifetime_field, limit_field}
-use Rattle.ifmap_forms.specs.Values.{name_field, size_field, kind_named, kinds_check, number_of_digits, piece_check, pieces_of, read_depth}
+use Rattle.ifmap_lemmas.specs.Separated.{comma_parts}
+use Rattle.ifmap_forms.specs.Values.{name_field, size_field, kind_named, kinds_check, number_of_digits, piece_check, read_depth}
 use Rattle.ifmap_forms.specs.Values.{read_filter, read_kinds, read_lifetime, read_limit, read_name, read_size, trim_white, within_range}
 use Rattle.ifmap_requests.specs.Published.{MetadataDefect, metadata_check, published_content, published_from}
 use Rattle.ifmap_envelopes.specs.Spaces.{ifmap_space}
@@ -90,7 +91,7 @@ kinds_single (piece ∷ pieces) =
 read_kinds_single : (scope : Scope) (text : Option (List ℕ)) → IsSingle (read_kinds text)
 read_kinds_single scope None = pass_single []
 read_kinds_single scope (Some text) =
-    if_single (list_all is_white text) (pass []) (kinds_check (pieces_of text)) (pass_single []) (kinds_single (pieces_of text))
+    if_single (list_all is_white text) (pass []) (kinds_check (comma_parts text)) (pass_single []) (kinds_single (comma_parts text))
 
 -- a text that is no filter is Failure and nothing else
 defect_is_failure : (code : Code) (scope : Scope) (text : List ℕ) → FilterDefect code scope text → code ≡ Failure

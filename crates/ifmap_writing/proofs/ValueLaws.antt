@@ -14,7 +14,8 @@ use Rattle.ifmap_ident.specs.declared.kinds.Kind.TheVariants.{AccessRequest, Dev
 use Rattle.ifmap_ident.specs.Kinds.{kind_name}
 use Rattle.ifmap_requests.specs.ifmap_forms.Checks.{Check, check_if, need_some, pass}
 use Rattle.ifmap_requests.specs.ifmap_forms.Values.{greatest_limit, greatest_size, least_limit, longest_name}
-use Rattle.ifmap_requests.specs.ifmap_forms.Values.{kind_named, kinds_check, number_of_digits, piece_check, pieces_of, read_depth, read_kinds}
+use Rattle.ifmap_lemmas.specs.Separated.{comma_parts}
+use Rattle.ifmap_requests.specs.ifmap_forms.Values.{kind_named, kinds_check, number_of_digits, piece_check, read_depth, read_kinds}
 use Rattle.ifmap_requests.specs.ifmap_forms.Values.{read_lifetime, read_limit, read_name, read_size, trim_white, within_range}
 use Rattle.ifmap_writing.specs.Attributes.{kinds_value, lifetime_value, limit_value, number_value}
 use Rattle.ifmap_requests.specs.ifmap_forms.FormLaws.{number_back}
@@ -62,14 +63,14 @@ lifetime_back false = refl
 -- ---- (2) kinds
 
 -- a name, and then others after commas
-pieces_end : (kind : Kind) → pieces_of (kind_name kind ++ []) ≡ kind_name kind ∷ []
+pieces_end : (kind : Kind) → comma_parts (kind_name kind ++ []) ≡ kind_name kind ∷ []
 pieces_end AccessRequest = refl
 pieces_end Device = refl
 pieces_end Identity = refl
 pieces_end IpAddress = refl
 pieces_end MacAddress = refl
 
-pieces_more : (kind : Kind) (rest : List ℕ) → pieces_of (kind_name kind ++ (codes "," ++ rest)) ≡ kind_name kind ∷ pieces_of rest
+pieces_more : (kind : Kind) (rest : List ℕ) → comma_parts (kind_name kind ++ (codes "," ++ rest)) ≡ kind_name kind ∷ comma_parts rest
 pieces_more AccessRequest rest = refl
 pieces_more Device rest = refl
 pieces_more Identity rest = refl
@@ -77,7 +78,7 @@ pieces_more IpAddress rest = refl
 pieces_more MacAddress rest = refl
 
 pieces_back : (kind : Kind) (others : List Kind)
-    → pieces_of (joined_texts (codes ",") kind_name (kind ∷ others)) ≡ map kind_name (kind ∷ others)
+    → comma_parts (joined_texts (codes ",") kind_name (kind ∷ others)) ≡ map kind_name (kind ∷ others)
 pieces_back kind [] = pieces_end kind
 pieces_back kind (other ∷ others) =
     pieces_more kind (joined_texts (codes ",") kind_name (other ∷ others))
@@ -108,7 +109,7 @@ pub kinds_back : (kinds : List Kind) → read_kinds (kinds_value kinds) (good ki
 kinds_back [] = refl
 kinds_back (kind ∷ others) =
     let solid = solid_text kind (flat_map (λ k. codes "," ++ kind_name k) others) in
-    let pieces : kinds_check (pieces_of (joined_texts (codes ",") kind_name (kind ∷ others))) (good (kind ∷ others)) =
+    let pieces : kinds_check (comma_parts (joined_texts (codes ",") kind_name (kind ∷ others))) (good (kind ∷ others)) =
     subst (λ (l : List (List ℕ)). kinds_check l (good (kind ∷ others))) (sym (pieces_back kind others)) (each_back (kind ∷ others)) in
-    subst (λ (b : Bool). check_if b (pass []) (kinds_check (pieces_of (joined_texts (codes ",") kind_name (kind ∷ others))))
+    subst (λ (b : Bool). check_if b (pass []) (kinds_check (comma_parts (joined_texts (codes ",") kind_name (kind ∷ others))))
     (good (kind ∷ others))) (sym solid) pieces
