@@ -29,6 +29,13 @@ code_point base digits =
     if not (length digits == 0) && list_all (λ d. is_digit d base) digits && is_character (digits_value base digits) then Some
     (digits_value base digits) else None
 
+-- the character that `#` and decimal digits, or `#x` and hexadecimal digits, name
+abbrev pub by_number : List ℕ → Option ℕ
+by_number name =
+    if starts_with ◌==◌ name (codes "#x") then code_point 16 (drop 2 name)
+    else (if starts_with ◌==◌ name (codes "#") then code_point 10 (drop 1 name)
+    else None)
+
 -- the character that a reference stands for, by what is between its `&` and its `;`
 abbrev pub reference_value : List ℕ → Option ℕ
 reference_value name =
@@ -37,9 +44,7 @@ reference_value name =
     else (if bytes_eq name (codes "gt") then Some greater_than
     else (if bytes_eq name (codes "quot") then Some double_quote
     else (if bytes_eq name (codes "apos") then Some single_quote
-    else (if starts_with ◌==◌ name (codes "#x") then code_point 16 (drop 2 name)
-    else (if starts_with ◌==◌ name (codes "#") then code_point 10 (drop 1 name)
-    else None))))))
+    else by_number name))))
 
 -- a run of bytes that are as they are, or a reference to a character
 pub data ValuePart : Type 0 where

@@ -1,7 +1,7 @@
 //! References to characters.
 ghost use Rattle.std.specs.Prelude.{◌≡◌, ◌≤◌};
-ghost use Rattle.ifmap_elem.specs.Values.{code_point, reference_value};
-ghost use Rattle.ifmap_lexer.specs.Numbers.{by_number, code_point_of};
+ghost use Rattle.ifmap_elem.specs.Values.{by_number, code_point, reference_value};
+ghost use Rattle.ifmap_lexer.specs.Numbers.{code_point_of};
 
 use crate::characters::is_allowed;
 
