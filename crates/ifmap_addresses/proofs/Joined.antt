@@ -7,24 +7,24 @@ use Rattle.std.specs.Str.{byte}
 
 -- how each number is written, and all of them
 module _ (written : ℕ → List ℕ) where
-  abbrev pub joined : List ℕ → List ℕ
-  joined xs = join_with_byte (byte ":") (map written xs)
+  abbrev pub colon_text : List ℕ → List ℕ
+  colon_text xs = join_with_byte (byte ":") (map written xs)
 
-  one_more : (x y : ℕ) (xs : List ℕ) → joined (x ∷ (xs ++ (y ∷ []))) ≡ joined (x ∷ xs) ++ (byte ":" ∷ written y)
-  one_more x y [] = refl
-  one_more x y (z ∷ xs) = ap (λ t. written x ++ (byte ":" ∷ t)) (one_more z y xs)
-      ∙ sym (append_assoc (written x) (byte ":" ∷ joined (z ∷ xs)) (byte ":" ∷ written y))
+  one_more_group : (x y : ℕ) (xs : List ℕ) → colon_text (x ∷ (xs ++ (y ∷ []))) ≡ colon_text (x ∷ xs) ++ (byte ":" ∷ written y)
+  one_more_group x y [] = refl
+  one_more_group x y (z ∷ xs) = ap (λ t. written x ++ (byte ":" ∷ t)) (one_more_group z y xs)
+      ∙ sym (append_assoc (written x) (byte ":" ∷ colon_text (z ∷ xs)) (byte ":" ∷ written y))
 
   -- of numbers that begin with x and go on with the others
   module _ (xs rest : List ℕ) (x : ℕ) (is : xs ≡ x ∷ rest) where
-    pub first_written : joined (take 1 xs) ≡ written x
+    pub first_written : colon_text (take 1 xs) ≡ written x
     first_written = rw is refl
 
-    pub next_written : (i : ℕ) → i < length rest → joined (take (i + 1 + 1) xs) ≡ joined (take (i + 1) xs) ++ (byte ":" ∷ written
+    pub next_written : (i : ℕ) → i < length rest → colon_text (take (i + 1 + 1) xs) ≡ colon_text (take (i + 1) xs) ++ (byte ":" ∷ written
         (get_or rest i 0))
-    next_written i h = rw (is, add-one (i + 1), add-one i, take-suc rest i 0 h) (one_more x (get_or rest i 0) (take i rest))
+    next_written i h = rw (is, add-one (i + 1), add-one i, take-suc rest i 0 h) (one_more_group x (get_or rest i 0) (take i rest))
 
-    pub all_written : (i : ℕ) → length rest ≤ i → joined (take (i + 1) xs) ≡ joined xs
+    pub all_written : (i : ℕ) → length rest ≤ i → colon_text (take (i + 1) xs) ≡ colon_text xs
     all_written i h = rw (is, add-one i, take_all i rest h) refl
 
 -- a text, and then a colon and another

@@ -69,47 +69,47 @@ drill_no_serve words x y a b e f = let bad : 100 ≡ 115 = ap letter (sym e ∙ 
 
 -- ---- what two words after a name ask for
 
-abbrev drilled : List ℕ → List ℕ → List (List ℕ)
-drilled x y = codes "drill" ∷ x ∷ y ∷ []
+abbrev drill_words : List ℕ → List ℕ → List (List ℕ)
+drill_words x y = codes "drill" ∷ x ∷ y ∷ []
 
-abbrev served : List ℕ → List ℕ → List (List ℕ)
-served x y = codes "serve" ∷ x ∷ y ∷ []
+abbrev serve_words : List ℕ → List ℕ → List (List ℕ)
+serve_words x y = codes "serve" ∷ x ∷ y ∷ []
 
-pub no_drill : (x y : List ℕ) → ((key count : ℕ) → IsDrill (drilled x y) key count → ⊥) → IsWrong (drilled x y)
+pub no_drill : (x y : List ℕ) → ((key count : ℕ) → IsDrill (drill_words x y) key count → ⊥) → IsWrong (drill_words x y)
 no_drill x y none = record {
-  no_replay = drill_no_replay (drilled x y) x y refl;
+  no_replay = drill_no_replay (drill_words x y) x y refl;
   no_drill = none;
-  no_serve = λ a w is. drill_no_serve (drilled x y) x y a (decimal w) refl is.words_are;
+  no_serve = λ a w is. drill_no_serve (drill_words x y) x y a (decimal w) refl is.words_are;
 }
 
-pub no_key : (x y : List ℕ) → ((n : ℕ) → n < 2 ^ 64 → x ≢ decimal n) → IsWrong (drilled x y)
+pub no_key : (x y : List ℕ) → ((n : ℕ) → n < 2 ^ 64 → x ≢ decimal n) → IsWrong (drill_words x y)
 no_key x y none = no_drill x y (λ key count is. none key is.key_fits (ap second is.words_are))
 
-pub no_count : (x y : List ℕ) → ((n : ℕ) → 1 ≤ n → n ≤ most_events → y ≢ decimal n) → IsWrong (drilled x y)
+pub no_count : (x y : List ℕ) → ((n : ℕ) → 1 ≤ n → n ≤ most_events → y ≢ decimal n) → IsWrong (drill_words x y)
 no_count x y none = no_drill x y (λ key count is. none count is.some is.few (ap third is.words_are))
 
 pub is_drill : (x y : List ℕ) (key count : ℕ) → (key < 2 ^ 64) × (x ≡ decimal key)
-    → (1 ≤ count) × (count ≤ most_events) × (y ≡ decimal count) → IsDrill (drilled x y) key count
+    → (1 ≤ count) × (count ≤ most_events) × (y ≡ decimal count) → IsDrill (drill_words x y) key count
 is_drill x y key count k c = record {
-  words_are = ap₂ drilled k.1 c.2;
+  words_are = ap₂ drill_words k.1 c.2;
   key_fits = k.0;
   some = c.0;
   few = c.1;
 }
 
-pub no_serve : (x y : List ℕ) → ((a : List ℕ) (w : ℕ) → IsServe (served x y) a w → ⊥) → IsWrong (served x y)
+pub no_serve : (x y : List ℕ) → ((a : List ℕ) (w : ℕ) → IsServe (serve_words x y) a w → ⊥) → IsWrong (serve_words x y)
 no_serve x y none = record {
-  no_replay = serve_no_replay (served x y) x y refl;
-  no_drill = λ key count is. drill_no_serve (served x y) (decimal key) (decimal count) x y is.words_are refl;
+  no_replay = serve_no_replay (serve_words x y) x y refl;
+  no_drill = λ key count is. drill_no_serve (serve_words x y) (decimal key) (decimal count) x y is.words_are refl;
   no_serve = none;
 }
 
-pub no_address : (x y : List ℕ) → length x ≡ 0 → IsWrong (served x y)
+pub no_address : (x y : List ℕ) → length x ≡ 0 → IsWrong (serve_words x y)
 no_address x y none = no_serve x y (λ a w is. let same : length x ≡ length a = ap (λ ws. length (second ws)) is.words_are in
     let some = is.nonempty in
     absurd (omega arith))
 
-pub no_workers : (x y : List ℕ) → ((n : ℕ) → 1 ≤ n → n ≤ most_workers → y ≢ decimal n) → IsWrong (served x y)
+pub no_workers : (x y : List ℕ) → ((n : ℕ) → 1 ≤ n → n ≤ most_workers → y ≢ decimal n) → IsWrong (serve_words x y)
 no_workers x y none = no_serve x y (λ a w is. none w is.some is.few (ap third is.words_are))
 
 at_least : (n : ℕ) → (n ≡ 0 → ⊥) → 1 ≤ n
@@ -117,9 +117,9 @@ at_least zero some = absurd (some refl)
 at_least (suc n) some = omega arith
 
 pub is_serve : (x y a : List ℕ) (w : ℕ) → is_option x ≡ false → (length x ≡ 0 → ⊥) → a ≡ x → (1 ≤ w) × (w ≤ most_workers) × (y ≡ decimal w)
-    → IsServe (served x y) a w
+    → IsServe (serve_words x y) a w
 is_serve x y a w plain some same c = record {
-  words_are = ap₂ served (sym same) c.2;
+  words_are = ap₂ serve_words (sym same) c.2;
   plain = ap is_option same ∙ plain;
   nonempty = let long : length a ≡ length x = ap length same in at_least (length a) (λ e. some (sym long ∙ e));
   some = c.0;

@@ -40,14 +40,14 @@ element_is prefixes e =
     (record { name = e.name; attributes = sort_attributes e.attributes; children = map arrange_child e.children })
     ∙ ap (element_of_parts prefixes [] e.name (sort_attributes e.attributes)) (map-map (child_bytes prefixes) arrange_child e.children)
 
-abbrev rooted : Rows → Rows → Element → List ℕ
-rooted prefixes declared e = element_of_parts prefixes declared e.name e.attributes (map (child_bytes prefixes) e.children)
+abbrev bytes_declaring : Rows → Rows → Element → List ℕ
+bytes_declaring prefixes declared e = element_of_parts prefixes declared e.name e.attributes (map (child_bytes prefixes) e.children)
 
 root_is : (prefixes declared : Rows) (e : Element)
-    → rooted prefixes declared (arrange e) ≡ element_of_parts prefixes declared e.name (sort_attributes e.attributes)
+    → bytes_declaring prefixes declared (arrange e) ≡ element_of_parts prefixes declared e.name (sort_attributes e.attributes)
     (map (λ c. child_bytes prefixes (arrange_child c)) e.children)
 root_is prefixes declared e =
-    ap (rooted prefixes declared) (arranged_is e) ∙ ap (element_of_parts prefixes declared e.name (sort_attributes e.attributes))
+    ap (bytes_declaring prefixes declared) (arranged_is e) ∙ ap (element_of_parts prefixes declared e.name (sort_attributes e.attributes))
     (map-map (child_bytes prefixes) arrange_child e.children)
 
 pub root_printed : (element : Element) (given spaces : List (List ℕ)) (a b c d e f : List ℕ) → spaces ≡ namespaces (arrange element)
@@ -70,7 +70,8 @@ root_printed element given spaces a b c d e f are p q r s t u =
     (sym (append_assoc (flat_map declaration_bytes own) (flat_map declaration_bytes more) rest))
     ∙ ap (λ l. codes "<" ++ (printed_name prefixes element.name ++ (l ++ rest))) (sym (flat_map-append declaration_bytes own more))
     ∙ sym (root_is prefixes (own ++ more) element)
-    ∙ ap (λ (l : List (List ℕ)). rooted (name_prefixes l) (numbered_prefixes (codes "n") 1 l ++ numbered_prefixes (codes "f") 1 given)
+    ∙ ap (λ (l : List (List ℕ)).
+    bytes_declaring (name_prefixes l) (numbered_prefixes (codes "n") 1 l ++ numbered_prefixes (codes "f") 1 given)
     (arrange element)) are
   where
     rest : List ℕ

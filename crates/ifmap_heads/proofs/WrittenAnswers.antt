@@ -65,25 +65,25 @@ status_is_read number reason pairs bytes rest is three ten seen fit short few co
 )
 
 -- the fields of an answer that is not a success
-abbrev closing : Fields → Fields
-closing pairs = pairs ++ (codes "content-length", codes "0") ∷ (codes "connection", codes "close") ∷ []
+abbrev closing_fields : Fields → Fields
+closing_fields pairs = pairs ++ (codes "content-length", codes "0") ∷ (codes "connection", codes "close") ∷ []
 
 plain : (number : ℕ) (body rest : List ℕ) (close : Bool)
-    → answer_bytes number body close ≡ print_response (head_of number (phrase number) (fields_of (closing [])))
+    → answer_bytes number body close ≡ print_response (head_of number (phrase number) (fields_of (closing_fields [])))
     → length (decimal number) ≡ 3 → list_all is_ascii_digit (decimal number) ≡ true
     → list_all is_value_byte (phrase number) ≡ true
     → nat_le (length (answer_bytes number body close)) longest_head ≡ true
-    → status_code (head_of number (phrase number) (fields_of (closing []))) ≡ number → (number == 200) ≡ false
+    → status_code (head_of number (phrase number) (fields_of (closing_fields []))) ≡ number → (number == 200) ≡ false
     → ReadsAnswer (answer_bytes number body close ++ rest) (status number rest)
 unfolding is_token_byte
 plain number body rest close is three ten seen short code other_than =
-    status_is_read number (phrase number) (closing [])
+    status_is_read number (phrase number) (closing_fields [])
     (answer_bytes number body close) rest is three ten seen refl short refl code other_than
 
 read_405 : (body rest : List ℕ) (close : Bool) → ReadsAnswer (answer_bytes 405 body close ++ rest) (status 405 rest)
 unfolding print_response is_token_byte digits
 read_405 body rest close =
-    status_is_read 405 (phrase 405) (closing ((codes "allow", codes "POST") ∷ [])) (answer_bytes 405 body close) rest
+    status_is_read 405 (phrase 405) (closing_fields ((codes "allow", codes "POST") ∷ [])) (answer_bytes 405 body close) rest
     refl refl refl refl refl refl refl refl refl
 
 pub status_is_read_back : (number : ℕ) (body rest : List ℕ) (close : Bool) → is_answer_status number ≡ true → number ≢ 200

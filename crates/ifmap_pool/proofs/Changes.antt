@@ -18,8 +18,8 @@ use Rattle.ifmap_pool.proofs.Emptiness.{one_of, slot_within, written, count_writ
 
 module _ {K : Type 0} where
   -- what contracts see
-  abbrev pub seen : List (Option (HeldKey K)) → ℕ → ℕ → Holdings K
-  seen slots len limit = record { live = live_of slots; spare = limit - len; limit = limit }
+  abbrev pub holdings_of : List (Option (HeldKey K)) → ℕ → ℕ → Holdings K
+  holdings_of slots len limit = record { live = live_of slots; spare = limit - len; limit = limit }
 
   -- a write over a slot that is not empty leaves which slots are
   free_written : (slots : List (Option (HeldKey K))) (free : List ℕ) (number : ℕ) (old value : HeldKey K) → slot_at slots number ≡ Some old
@@ -38,7 +38,7 @@ module _ {K : Type 0} where
       }
 
   module _ {cmp : K → K → Ordering} {slots : List (Option (HeldKey K))} {free order : List ℕ} {len limit : ℕ}
-      (kept : IsKept cmp slots free order len limit) {pool : Holdings K} (is : seen slots len limit ≡ pool) where
+      (kept : IsKept cmp slots free order len limit) {pool : Holdings K} (is : holdings_of slots len limit ≡ pool) where
     pub shown : Shows slots pool
     shown = record { live = sym (ap (λ (p : Holdings K). p.live) is) }
 
@@ -70,39 +70,39 @@ module _ {K : Type 0} where
       -- the count of a number becomes another
       module _ (number : ℕ) (old : HeldKey K) (was : slot_at slots number ≡ Some old) (counts : ℕ → ℕ) (some : 0 < counts old.holds)
           {after : List (Option (HeldKey K))} (wrote : after ≡ set slots number (Some (record old { holds = counts old.holds }))) where
-        abbrev recounted : HeldKey K
-        recounted = record old { holds = counts old.holds }
+        abbrev key_after : HeldKey K
+        key_after = record old { holds = counts old.holds }
 
-        is_written : Writes slots after number (Some recounted)
-        is_written = subst (λ (s : List (Option (HeldKey K))). Writes slots s number (Some recounted)) (sym wrote)
-            (written slots number (Some recounted) (slot_within slots number (is_some_of _ old was)))
+        is_written : Writes slots after number (Some key_after)
+        is_written = subst (λ (s : List (Option (HeldKey K))). Writes slots s number (Some key_after)) (sym wrote)
+            (written slots number (Some key_after) (slot_within slots number (is_some_of _ old was)))
 
         kept_write : IsKept cmp after free order len limit
         kept_write = record {
-          indexed = IsKeyIndex-written total (slot_at slots) (slot_at after) order kept.indexed number old recounted was
+          indexed = IsKeyIndex-written total (slot_at slots) (slot_at after) order kept.indexed number old key_after was
               is_written.changed refl some is_written.others;
           free_slots = subst (λ (s : List (Option (HeldKey K))). AreFree s free) (sym wrote)
-              (free_written slots free number old recounted was
+              (free_written slots free number old key_after was
               kept.free_slots);
           counted =
-              let all = count_written slots number (Some recounted) (slot_within slots number (is_some_of _ old was)) in
+              let all = count_written slots number (Some key_after) (slot_within slots number (is_some_of _ old was)) in
               let had = ap one_of was in
               omega (arith, kept.counted, all, had, ap slot_count wrote);
-          within = omega (arith, kept.within, ap length wrote, length-set slots number (Some recounted));
+          within = omega (arith, kept.within, ap length wrote, length-set slots number (Some key_after));
         }
 
         seen_write : (entry : K × ℕ) → entry_at pool number ≡ Some entry
-            → seen after len limit ≡ record pool { live = map.insert pool.live number (entry.0, counts entry.1) }
+            → holdings_of after len limit ≡ record pool { live = map.insert pool.live number (entry.0, counts entry.1) }
         seen_write entry there =
-            subst (λ (x : K × ℕ). seen after len limit ≡ record pool { live = map.insert pool.live number (x.0, counts x.1) })
+            subst (λ (x : K × ℕ). holdings_of after len limit ≡ record pool { live = map.insert pool.live number (x.0, counts x.1) })
             (entry_known shown number old entry was there)
             (same_holdings _ _
-            (live_of-set slots after number recounted is_written.changed is_written.others
-            ∙ ap (λ (p : Holdings K). map.insert p.live number (recounted.key, recounted.holds)) is)
+            (live_of-set slots after number key_after is_written.changed is_written.others
+            ∙ ap (λ (p : Holdings K). map.insert p.live number (key_after.key, key_after.holds)) is)
             spare_is limit_is)
 
         pub write_count : IsKept cmp after free order len limit × ((entry : K × ℕ) → entry_at pool number ≡ Some entry
-            → seen after len limit ≡ record pool { live = map.insert pool.live number (entry.0, counts entry.1) })
+            → holdings_of after len limit ≡ record pool { live = map.insert pool.live number (entry.0, counts entry.1) })
         write_count = (kept_write, seen_write)
 
       -- a free number is taken for a key that was missed
@@ -125,7 +125,7 @@ module _ {K : Type 0} where
           within = inside;
         }
 
-        seen_take : TakesNumber pool (seen after longer limit) number key
+        seen_take : TakesNumber pool (holdings_of after longer limit) number key
         seen_take = record {
           free = entry_is shown number ∙ ap (option_map entry_of) vacant;
           live = live_of-set slots after number once_held writes.changed writes.others
@@ -134,7 +134,7 @@ module _ {K : Type 0} where
           limit = limit_is;
         }
 
-        pub take_number : IsKept cmp after rest items longer limit × TakesNumber pool (seen after longer limit) number key
+        pub take_number : IsKept cmp after rest items longer limit × TakesNumber pool (holdings_of after longer limit) number key
         take_number = (kept_take, seen_take)
 
       -- a number is freed
@@ -151,12 +151,12 @@ module _ {K : Type 0} where
           within = omega (arith, kept.within, same);
         }
 
-        seen_free : Frees pool (seen after shorter limit) number
+        seen_free : Frees pool (holdings_of after shorter limit) number
         seen_free = record {
           live = live_of-removed slots after number writes.changed writes.others ∙ ap (λ (p : Holdings K). map.remove p.live number) is;
           spare = omega (arith, spare_is, short, len_within);
           limit = limit_is;
         }
 
-        pub free_number : IsKept cmp after rest items shorter limit × Frees pool (seen after shorter limit) number
+        pub free_number : IsKept cmp after rest items shorter limit × Frees pool (holdings_of after shorter limit) number
         free_number = (kept_free, seen_free)

@@ -11,34 +11,34 @@ use Rattle.ifmap_pool.specs.Index.{entries_from, entry_of, live_of, slot_count}
 use Rattle.ifmap_pool.specs.declared.slots.HeldKey.{HeldKey}
 
 module _ {K : Type 0} where
-  abbrev listed : ℕ → List (Option (HeldKey K)) → List (ℕ × (K × ℕ))
-  listed first slots = map (λ e. (e.0, entry_of e.1)) (entries_from first slots)
+  abbrev pairs_from : ℕ → List (Option (HeldKey K)) → List (ℕ × (K × ℕ))
+  pairs_from first slots = map (λ e. (e.0, entry_of e.1)) (entries_from first slots)
 
   -- no entry has a number below the first
-  find_before : (first q : ℕ) (slots : List (Option (HeldKey K))) → q < first → find nat_cmp q (listed first slots) ≡ None
+  find_before : (first q : ℕ) (slots : List (Option (HeldKey K))) → q < first → find nat_cmp q (pairs_from first slots) ≡ None
   find_before first q [] h = refl
   find_before first q (None ∷ rest) h = find_before (first + 1) q rest (omega arith)
   find_before first q (Some held ∷ rest) h =
-      ap (λ b. cond b (Some (entry_of held)) (find nat_cmp q (listed (first + 1) rest))) (others_untied q first (omega arith))
+      ap (λ b. cond b (Some (entry_of held)) (find nat_cmp q (pairs_from (first + 1) rest))) (others_untied q first (omega arith))
       ∙ find_before (first + 1) q rest (omega arith)
 
   find_listed : (first q k : ℕ) (slots : List (Option (HeldKey K))) → q ≡ first + k
-      → find nat_cmp q (listed first slots) ≡ option_map entry_of (get_or slots k None)
+      → find nat_cmp q (pairs_from first slots) ≡ option_map entry_of (get_or slots k None)
   find_listed first q k [] e = refl
   find_listed first q zero (None ∷ rest) e = find_before (first + 1) q rest (omega arith)
   find_listed first q (suc k) (None ∷ rest) e = find_listed (first + 1) q k rest (omega arith)
   find_listed first q zero (Some held ∷ rest) e =
       let here : q ≡ first = omega arith in
-      ap (λ b. cond b (Some (entry_of held)) (find nat_cmp q (listed (first + 1) rest))) ((ties_where_equal q first).1 here)
+      ap (λ b. cond b (Some (entry_of held)) (find nat_cmp q (pairs_from (first + 1) rest))) ((ties_where_equal q first).1 here)
   find_listed first q (suc k) (Some held ∷ rest) e =
-      ap (λ b. cond b (Some (entry_of held)) (find nat_cmp q (listed (first + 1) rest))) (others_untied q first (omega arith))
+      ap (λ b. cond b (Some (entry_of held)) (find nat_cmp q (pairs_from (first + 1) rest))) (others_untied q first (omega arith))
       ∙ find_listed (first + 1) q k rest (omega arith)
 
   -- the map has at a number what its slot has
   pub get-live_of : (slots : List (Option (HeldKey K))) (number : ℕ) → get (live_of slots) number ≡ option_map entry_of (get_or slots number
       None)
   unfolding live_of
-  get-live_of slots number = get-from_entries nat_cmp_total (listed 0 slots) number ∙ find_listed 0 number number slots (omega arith)
+  get-live_of slots number = get-from_entries nat_cmp_total (pairs_from 0 slots) number ∙ find_listed 0 number number slots (omega arith)
 
   pub live_of-nil : (slots : List (Option (HeldKey K))) → slots ≡ [] → live_of slots ≡ empty
   unfolding live_of
@@ -74,17 +74,18 @@ module _ {K : Type 0} where
             ∙ ap (λ b. cond b None (get (live_of old) q)) (others_untied q number differs))
       ])
 
-  len_listed : (first : ℕ) (slots : List (Option (HeldKey K))) → len (from_entries {R = nat_cmp} (listed first slots)) ≡ slot_count slots
+  len_listed : (first : ℕ) (slots : List (Option (HeldKey K)))
+      → len (from_entries {R = nat_cmp} (pairs_from first slots)) ≡ slot_count slots
   len_listed first [] = len-empty nat_cmp (K × ℕ)
   len_listed first (None ∷ rest) = len_listed (first + 1) rest
   len_listed first (Some held ∷ rest) =
-      let none : get (from_entries {R = nat_cmp} (listed (first + 1) rest)) first ≡ None
-      = get-from_entries nat_cmp_total (listed (first + 1) rest) first ∙ find_before (first + 1) first rest (omega arith)
-      in let more : len (from_entries {R = nat_cmp} (listed first (Some held ∷ rest)))
-      ≡ len (from_entries {R = nat_cmp} (listed (first + 1) rest)) + 1
-      = len-insert nat_cmp_total (from_entries (listed (first + 1) rest)) first (entry_of held)
-      ∙ ap (λ o. cond (is_some o) (len (from_entries {R = nat_cmp} (listed (first + 1) rest)))
-      (len (from_entries {R = nat_cmp} (listed (first + 1) rest)) + 1)) none
+      let none : get (from_entries {R = nat_cmp} (pairs_from (first + 1) rest)) first ≡ None
+      = get-from_entries nat_cmp_total (pairs_from (first + 1) rest) first ∙ find_before (first + 1) first rest (omega arith)
+      in let more : len (from_entries {R = nat_cmp} (pairs_from first (Some held ∷ rest)))
+      ≡ len (from_entries {R = nat_cmp} (pairs_from (first + 1) rest)) + 1
+      = len-insert nat_cmp_total (from_entries (pairs_from (first + 1) rest)) first (entry_of held)
+      ∙ ap (λ o. cond (is_some o) (len (from_entries {R = nat_cmp} (pairs_from (first + 1) rest)))
+      (len (from_entries {R = nat_cmp} (pairs_from (first + 1) rest)) + 1)) none
       in let one : slot_count (Some held ∷ rest) ≡ 1 + slot_count rest
       = sum_by-cons (λ (o : Option (HeldKey K)). cond (is_some o) 1 0) (Some held) rest
       in omega (arith, more, one, len_listed (first + 1) rest)

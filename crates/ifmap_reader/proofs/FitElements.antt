@@ -203,17 +203,17 @@ joined_inner (Run t ∷ items) = put_inner t (join_runs items) ∙ joined_inner 
 -- of these some are children_among
 
 module _ (beside : Bool) where
-  abbrev left : List ContentItem → List ContentItem
-  left items = filter (is_child beside) items
+  abbrev child_items : List ContentItem → List ContentItem
+  child_items items = filter (is_child beside) items
 
-  left_fits : (items : List ContentItem) → AllByRecursion IsFitItem items → AllByRecursion IsFitItem (left items)
+  left_fits : (items : List ContentItem) → AllByRecursion IsFitItem items → AllByRecursion IsFitItem (child_items items)
   left_fits [] f = tt
   left_fits (item ∷ items) f = elim (cases_Bool (is_child beside item)) [
     | inl e ↦ rw e (f.0, left_fits items f.1)
     | inr e ↦ rw e (left_fits items f.1)
   ]
 
-  left_apart : (items : List ContentItem) → AreApart (map item_child items) → AreApart (map item_child (left items))
+  left_apart : (items : List ContentItem) → AreApart (map item_child items) → AreApart (map item_child (child_items items))
   left_apart [] a = tt
   left_apart (Inner e d ∷ items) a = left_apart items a
   left_apart (Run t ∷ []) a = elim (cases_Bool (is_child beside (Run t))) [ inl k ↦ rw k tt | inr k ↦ rw k tt ]
@@ -221,7 +221,7 @@ module _ (beside : Bool) where
       elim (cases_Bool (is_child beside (Run t))) [ inl k ↦ rw k (left_apart items a) | inr k ↦ rw k (left_apart items a) ]
   left_apart (Run t ∷ (Run u ∷ items)) a = absurd a
 
-  left_inner : (items : List ContentItem) → list_any is_element (map item_child (left items)) ≡ list_any is_inner items
+  left_inner : (items : List ContentItem) → list_any is_element (map item_child (child_items items)) ≡ list_any is_inner items
   left_inner [] = refl
   left_inner (Inner e d ∷ items) = refl
   left_inner (Run t ∷ items) =

@@ -88,20 +88,20 @@ module _ {S : Type 0} (count : ℕ → ℕ) (link : ℕ → ℕ → Option ℕ) 
       (only : (v w : ℕ) → hides hidden v w ≡ true → IsFlipped flips true v w)
       (each : (v w k : ℕ) → IsFlipped flips true v w → m v ≡ Some k → hides hidden v w ≡ true)
       (turned : (v w : ℕ) → hides hidden v w ≡ true → hides hidden w v ≡ true) where
-    abbrev pub shown : ℕ → ℕ → Type 0
-    shown = Linked count (λ v i. unless_hidden hidden v (link v i))
+    abbrev pub ShowsLink : ℕ → ℕ → Type 0
+    ShowsLink = Linked count (λ v i. unless_hidden hidden v (link v i))
 
-    shown_back : (v w : ℕ) → Mid (Linked count link) flips v w → shown v w
+    shown_back : (v w : ℕ) → Mid (Linked count link) flips v w → ShowsLink v w
     shown_back v w l = shown_made v w l.0 (by (hides hidden v w) refl)
       where
         by : (t : Bool) → hides hidden v w ≡ t → hides hidden v w ≡ false
         by true e = absurd (l.1 (only v w e))
         by false e = e
 
-    shown_met : (v w k : ℕ) → m v ≡ Some k → shown v w → Mid (Linked count link) flips v w
+    shown_met : (v w k : ℕ) → m v ≡ Some k → ShowsLink v w → Mid (Linked count link) flips v w
     shown_met v w k e l = let p = shown_parts v w l in (p.0, λ f. true≢false (sym (each v w k f e) ∙ p.1))
 
-    shown_symmetric : IsSymmetric (Linked count link) → IsSymmetric shown
+    shown_symmetric : IsSymmetric (Linked count link) → IsSymmetric ShowsLink
     shown_symmetric symmetric v w l = let p = shown_parts v w l in shown_made w v (symmetric v w p.0) (by (hides hidden w v) refl p.1)
       where
         by : (t : Bool) → hides hidden w v ≡ t → hides hidden v w ≡ false → hides hidden w v ≡ false
@@ -117,41 +117,41 @@ module _ {S : Type 0} (count : ℕ → ℕ) (link : ℕ → ℕ → Option ℕ) 
           old_reached k v le (walk_along (Mid (Linked count link) flips) (Old (Linked count link) flips) terminal start (λ x y l. inl l)
           k v w)
 
-      old_back : (v w : ℕ) → Old (Linked count link) flips v w → WithRemoved shown flips v w
+      old_back : (v w : ℕ) → Old (Linked count link) flips v w → WithRemoved ShowsLink flips v w
       old_back v w l = elim l [ inl mid ↦ inl (shown_back v w mid) | inr f ↦ inr f ]
 
-      old_met : (v w k : ℕ) → m v ≡ Some k → WithRemoved shown flips v w → Old (Linked count link) flips v w
+      old_met : (v w k : ℕ) → m v ≡ Some k → WithRemoved ShowsLink flips v w → Old (Linked count link) flips v w
       old_met v w k e l = elim l [ inl mid ↦ inl (shown_met v w k e mid) | inr f ↦ inr f ]
 
-      old_there : (v k : ℕ) → HasDepth (WithRemoved shown flips) terminal start top v k
+      old_there : (v k : ℕ) → HasDepth (WithRemoved ShowsLink flips) terminal start top v k
           → HasDepth (Old (Linked count link) flips) terminal start top v k
-      old_there = depth_met (Old (Linked count link) flips) (WithRemoved shown flips) terminal start top m old_back old_reached old_met
+      old_there = depth_met (Old (Linked count link) flips) (WithRemoved ShowsLink flips) terminal start top m old_back old_reached old_met
 
       old_again : (v k : ℕ) → HasDepth (Old (Linked count link) flips) terminal start top v k
-          → HasDepth (WithRemoved shown flips) terminal start top v k
-      old_again = depth_more (Old (Linked count link) flips) (WithRemoved shown flips) terminal start top m old_back old_reached old_met
+          → HasDepth (WithRemoved ShowsLink flips) terminal start top v k
+      old_again = depth_more (Old (Linked count link) flips) (WithRemoved ShowsLink flips) terminal start top m old_back old_reached old_met
 
-      mid_there : (v k : ℕ) → HasDepth shown terminal start top v k → HasDepth (Mid (Linked count link) flips) terminal start top v k
-      mid_there = depth_met (Mid (Linked count link) flips) shown terminal start top m shown_back mid_reached shown_met
+      mid_there : (v k : ℕ) → HasDepth ShowsLink terminal start top v k → HasDepth (Mid (Linked count link) flips) terminal start top v k
+      mid_there = depth_met (Mid (Linked count link) flips) ShowsLink terminal start top m shown_back mid_reached shown_met
 
-      mid_again : (v k : ℕ) → HasDepth (Mid (Linked count link) flips) terminal start top v k → HasDepth shown terminal start top v k
-      mid_again = depth_more (Mid (Linked count link) flips) shown terminal start top m shown_back mid_reached shown_met
+      mid_again : (v k : ℕ) → HasDepth (Mid (Linked count link) flips) terminal start top v k → HasDepth ShowsLink terminal start top v k
+      mid_again = depth_more (Mid (Linked count link) flips) ShowsLink terminal start top m shown_back mid_reached shown_met
 
-      pub before_cut : IsSymmetric (Linked count link) → IsBeforeCut shown terminal flips start top m
+      pub before_cut : IsSymmetric (Linked count link) → IsBeforeCut ShowsLink terminal flips start top m
       before_cut symmetric = record {
         symmetric = shown_symmetric symmetric;
         depths = λ v k. (λ e. old_again v k ((depths v k).0 e), λ h. (depths v k).1 (old_there v k h));
       }
 
-      pub after_cut : (n : ℕ → Option ℕ) → AreDepths shown terminal start top n
+      pub after_cut : (n : ℕ → Option ℕ) → AreDepths ShowsLink terminal start top n
           → AreDepths (Mid (Linked count link) flips) terminal start top n
       after_cut n cut v k = (λ e. mid_there v k ((cut v k).0 e), λ h. (cut v k).1 (mid_again v k h))
 
       same_cut : (v : ℕ) → SameDepth (Old (Linked count link) flips) (Mid (Linked count link) flips) terminal start top v
-          → SameDepth (WithRemoved shown flips) shown terminal start top v
+          → SameDepth (WithRemoved ShowsLink flips) ShowsLink terminal start top v
       same_cut v same k = (λ h. mid_again v k ((same k).0 (old_there v k h)), λ h. old_again v k ((same k).1 (mid_there v k h)))
 
-      pub near_cut : (v : ℕ) → NearOneWay flips false (WithRemoved shown flips) shown terminal start top v
+      pub near_cut : (v : ℕ) → NearOneWay flips false (WithRemoved ShowsLink flips) ShowsLink terminal start top v
           → NearFlips (Linked count link) flips terminal start top v
       near_cut v (at_flip e) = at_flip (inr e)
       near_cut v (touched t) = touched (λ same. t (same_cut v same.0))
@@ -163,31 +163,30 @@ module _ {S : Type 0} (count : ℕ → ℕ) (link : ℕ → ℕ → Option ℕ) 
       module _ (symmetric : IsSymmetric (Linked count link)) where
         -- the steps of a cut alone
         pub spent_cutting : (before after : ℕ)
-            → (IsBeforeCut shown terminal flips start top m → IsWithin count (NearOneWay flips false (WithRemoved shown flips) shown
-            terminal
-            start top) 4 before after)
+            → (IsBeforeCut ShowsLink terminal flips start top m
+            → IsWithin count (NearOneWay flips false (WithRemoved ShowsLink flips) ShowsLink terminal start top) 4 before after)
             → IsWithin (λ v. 1 + count v) (NearFlips (Linked count link) flips terminal start top) 5 before after
         spent_cutting before after cut =
             spent_first count (NearFlips (Linked count link) flips terminal start top)
-            (NearOneWay flips false (WithRemoved shown flips) shown terminal start top) before after near_cut (cut (before_cut symmetric))
+            (NearOneWay flips false (WithRemoved ShowsLink flips) ShowsLink terminal start top) before after near_cut
+            (cut (before_cut symmetric))
 
         -- what growth is given: the marks that the cut left are the depths over the links that both graphs have
-        pub cut_left : (n : ℕ → Option ℕ) → (IsBeforeCut shown terminal flips start top m → AreDepths shown terminal start top n)
+        pub cut_left : (n : ℕ → Option ℕ) → (IsBeforeCut ShowsLink terminal flips start top m → AreDepths ShowsLink terminal start top n)
             → AreDepths (Mid (Linked count link) flips) terminal start top n
         cut_left n cut = after_cut n (cut (before_cut symmetric))
 
         -- the steps of a cut and of growth
         pub spent_repairing : (n : ℕ → Option ℕ) (before mid after : ℕ)
-            → (IsBeforeCut shown terminal flips start top m → IsWithin count (NearOneWay flips false (WithRemoved shown flips) shown
-            terminal
-            start top) 4 before mid)
-            → (IsBeforeCut shown terminal flips start top m → AreDepths shown terminal start top n)
+            → (IsBeforeCut ShowsLink terminal flips start top m
+            → IsWithin count (NearOneWay flips false (WithRemoved ShowsLink flips) ShowsLink terminal start top) 4 before mid)
+            → (IsBeforeCut ShowsLink terminal flips start top m → AreDepths ShowsLink terminal start top n)
             → (AreDepths (Mid (Linked count link) flips) terminal start top n → IsWithin count (NearOneWay flips true (Mid (Linked count
             link)
             flips) (Linked count link) terminal start top) 1 mid after)
             → IsWithin (λ v. 1 + count v) (NearFlips (Linked count link) flips terminal start top) 5 before after
         spent_repairing n before mid after cut left grow =
             spent_both count (NearFlips (Linked count link) flips terminal start top)
-            (NearOneWay flips false (WithRemoved shown flips) shown terminal start top)
+            (NearOneWay flips false (WithRemoved ShowsLink flips) ShowsLink terminal start top)
             (NearOneWay flips true (Mid (Linked count link) flips) (Linked count link) terminal start top) before mid after near_cut
             (near_grown (Linked count link) terminal flips start top) (cut (before_cut symmetric)) (grow (cut_left n left))

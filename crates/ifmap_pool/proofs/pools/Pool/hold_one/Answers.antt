@@ -4,7 +4,7 @@ use Rattle.ifmap_lemmas.specs.Options.{is_some_of}
 use Rattle.ifmap_pool.specs.Holdings.{Holdings, HoldsAgain, HoldsOne, TakesNumber}
 use Rattle.ifmap_pool.specs.Index.{IsKept, IsKeyPlace, slot_at, slot_count}
 use Rattle.ifmap_pool.specs.declared.slots.HeldKey.{HeldKey}
-use Rattle.ifmap_pool.proofs.Changes.{seen, shown, whole_now, room_for_new, write_count, take_number}
+use Rattle.ifmap_pool.proofs.Changes.{holdings_of, shown, whole_now, room_for_new, write_count, take_number}
 use Rattle.ifmap_pool.proofs.Kept.{place_held}
 use Rattle.ifmap_pool.proofs.Named.{holds_from_slot, names_from_slot, absent_at}
 use Rattle.ifmap_pool.proofs.pools.Pool.hold_one.Given as given
@@ -28,7 +28,7 @@ there g c = rw c.deref-in-Ok.ensures.value at c.slot_of_live.ensures
 counted : (g : given.Over) (c : After-set_holds g)
     → IsKept g.K.Ord.cmp c.set_holds.new.slots.items c.self.inside.free.items c.self.inside.order.items (vec_len c.self.inside.order)
     c.self.inside.limit
-    × HoldsAgain c.args.self.now (seen c.set_holds.new.slots.items (vec_len c.self.inside.order) c.self.inside.limit)
+    × HoldsAgain c.args.self.now (holdings_of c.set_holds.new.slots.items (vec_len c.self.inside.order) c.self.inside.limit)
     c.index-number.result.now
 counted g c =
     let at = rw c.deref-in-Ok.ensures.value at c.slot_of_live.ensures in
@@ -46,7 +46,7 @@ room g c = room_for_new c.self.invariant.0 c.self.view_is g.met.K.Ord.total c.ar
 taken : (g : given.Over) (c : After-list_number g) → slot_count c.self.inside.slots.items < c.self.inside.limit
     → IsKept g.K.Ord.cmp c.fill_slot-number.new.slots.items c.fill_slot-number.new.free.items c.list_number.new.order.items
     (vec_len c.list_number.new.order) c.self.inside.limit
-    × TakesNumber c.args.self.now (seen c.fill_slot-number.new.slots.items (vec_len c.list_number.new.order) c.self.inside.limit)
+    × TakesNumber c.args.self.now (holdings_of c.fill_slot-number.new.slots.items (vec_len c.list_number.new.order) c.self.inside.limit)
     c.fill_slot-number.result c.args.key
 taken g c small =
     take_number c.self.invariant.0 c.self.view_is g.met.K.Ord.total c.fill_slot-number.result c.in-Err.place c.args.key

@@ -3,7 +3,7 @@ use Rattle.std.specs.Prelude.{IsSome}
 use Rattle.ifmap_lemmas.specs.Options.{is_some_of}
 use Rattle.ifmap_pool.specs.Holdings.{Holdings, Frees, LetsGo, LetsOneGo}
 use Rattle.ifmap_pool.specs.Index.{IsKept, slot_at}
-use Rattle.ifmap_pool.proofs.Changes.{seen, shown, limit_is, whole_now, write_count, free_number}
+use Rattle.ifmap_pool.proofs.Changes.{holdings_of, shown, limit_is, whole_now, write_count, free_number}
 use Rattle.ifmap_pool.proofs.Named.{slot_from_live, entry_from_slot}
 use Rattle.ifmap_pool.proofs.pools.Pool.release_one.Given as given
 use Rattle.ifmap_pool.proofs.pools.Pool.release_one.Goals as goal
@@ -28,7 +28,7 @@ goes g c new either =
 counted : (g : given.Over) (c : After-set_holds g)
     → IsKept g.K.Ord.cmp c.set_holds.new.slots.items c.self.inside.free.items c.self.inside.order.items (vec_len c.self.inside.order)
     c.self.inside.limit
-    × LetsGo c.args.self.now (seen c.set_holds.new.slots.items (vec_len c.self.inside.order) c.self.inside.limit) c.args.number
+    × LetsGo c.args.self.now (holdings_of c.set_holds.new.slots.items (vec_len c.self.inside.order) c.self.inside.limit) c.args.number
 counted g c =
     let at = rw c.deref.ensures.value at c.slot_of_live.ensures in
     let wrote = write_count c.self.invariant.0 c.self.view_is g.met.K.Ord.total c.args.number c.slot_of_live.result.now at (λ n. n - 1)
@@ -39,7 +39,7 @@ counted g c =
 freed : (g : given.Over) (c : After-empty_slot g)
     → IsKept g.K.Ord.cmp c.empty_slot.new.slots.items c.empty_slot.new.free.items c.unlist_number.new.order.items
     (vec_len c.unlist_number.new.order) c.self.inside.limit
-    × Frees c.args.self.now (seen c.empty_slot.new.slots.items (vec_len c.unlist_number.new.order) c.self.inside.limit) c.args.number
+    × Frees c.args.self.now (holdings_of c.empty_slot.new.slots.items (vec_len c.unlist_number.new.order) c.self.inside.limit) c.args.number
 freed g c =
     let listed = c.unlist_number.ensures.items in
     free_number c.self.invariant.0 c.self.view_is g.met.K.Ord.total c.args.number listed.0 listed.1 listed.2
