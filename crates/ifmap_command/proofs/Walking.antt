@@ -77,26 +77,26 @@ or_else-nil [] = refl
 or_else-nil (k ∷ ks) = refl
 
 -- the walk that begins with a name
-abbrev Stops : Text → Type 0
-Stops name = (rest : List Text)
+abbrev EndsWalk : Text → Type 0
+EndsWalk name = (rest : List Text)
     → (walk app.top.rules (names_of app) nothing_held (name ∷ rest) ≡ stopped_at name rest)
     × (walk_fault app.top (names_of app) (walk_from nothing_held) (name ∷ rest) ≡ [])
 
-stops_replay : Stops replay
+stops_replay : EndsWalk replay
 unfolding walk_fault walked
 stops_replay rest = (
   stopped_walk app.top.rules (names_of app) replay [] rest,
   stopped_faults app.top (names_of app) replay [] rest,
 )
 
-stops_drill : Stops drill
+stops_drill : EndsWalk drill
 unfolding walk_fault walked
 stops_drill rest = (
   stopped_walk app.top.rules (names_of app) drill [] rest,
   stopped_faults app.top (names_of app) drill [] rest,
 )
 
-stops_serve : Stops serve
+stops_serve : EndsWalk serve
 unfolding walk_fault walked
 stops_serve rest = (
   stopped_walk app.top.rules (names_of app) serve [] rest,

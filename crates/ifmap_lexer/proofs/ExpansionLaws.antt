@@ -32,33 +32,33 @@ no_run (b ∷ bs) rest tail some f e =
     cc
 
 module _ (place : TextPlace) where
-  abbrev Means : List ℕ → List ℕ → Type 0
-  Means written text = SpellsOut (part_in place) written text
+  abbrev SpellsIn : List ℕ → List ℕ → Type 0
+  SpellsIn written text = SpellsOut (part_in place) written text
 
-  run_found : (run after u : List ℕ) → AllAre (is_but ampersand) run → EndsRun after → Means after u
-      → Means (run ++ after) (part_in place (Plain run) ++ u)
-  run_found [] after u f ends x = subst (Means after) (sym (ap (λ y. y ++ u) (empty_run place))) x
+  run_found : (run after u : List ℕ) → AllAre (is_but ampersand) run → EndsRun after → SpellsIn after u
+      → SpellsIn (run ++ after) (part_in place (Plain run) ++ u)
+  run_found [] after u f ends x = subst (SpellsIn after) (sym (ap (λ y. y ++ u) (empty_run place))) x
   run_found (b ∷ bs) after u f ends x = record {
     parts = Plain (b ∷ bs) ∷ x.parts;
     taken = (after, (refl, no_cons b bs, f, ends), x.taken);
     text_is = ap (λ y. part_in place (Plain (b ∷ bs)) ++ y) x.text_is;
   }
 
-  reference_found : (name beyond u : List ℕ) (c : ℕ) → AllAre (is_but semicolon) name → reference_value name ≡ Some c → Means beyond u
-      → Means (ampersand ∷ (name ++ (semicolon ∷ beyond))) (encode_utf8 c ++ u)
+  reference_found : (name beyond u : List ℕ) (c : ℕ) → AllAre (is_but semicolon) name → reference_value name ≡ Some c → SpellsIn beyond u
+      → SpellsIn (ampersand ∷ (name ++ (semicolon ∷ beyond))) (encode_utf8 c ++ u)
   reference_found name beyond u c f e x =
-      subst (λ (y : List ℕ). Means (ampersand ∷ (name ++ (semicolon ∷ beyond))) (y ++ u)) (character_in place c) (record {
+      subst (λ (y : List ℕ). SpellsIn (ampersand ∷ (name ++ (semicolon ∷ beyond))) (y ++ u)) (character_in place c) (record {
         parts = Reference c ∷ x.parts;
         taken = (beyond, (name, refl, f, e), x.taken);
         text_is = ap (λ y. part_in place (Reference c) ++ y) x.text_is;
       })
 
-  run_ahead : (run after : List ℕ) → AllAre (is_but ampersand) run → EndsRun after → (t : List ℕ) → Means (run ++ after) t → (u : List ℕ)
-      × Means after u
+  run_ahead : (run after : List ℕ) → AllAre (is_but ampersand) run → EndsRun after → (t : List ℕ) → SpellsIn (run ++ after) t → (u : List ℕ)
+      × SpellsIn after u
   run_ahead [] after f ends t x = (t, x)
   run_ahead (b ∷ bs) after f ends t x = first x.parts x.taken
     where
-      first : (parts : List ValuePart) → To TakesPart ((b ∷ bs) ++ after) parts [] → (u : List ℕ) × Means after u
+      first : (parts : List ValuePart) → To TakesPart ((b ∷ bs) ++ after) parts [] → (u : List ℕ) × SpellsIn after u
       first [] l = absurd (no_cons b (bs ++ after) l)
       first (p ∷ ps) l =
           let both = one_part ((b ∷ bs) ++ after) (Plain (b ∷ bs)) p after l.0 (refl, no_cons b bs, f, ends) l.1 in (
@@ -68,10 +68,10 @@ module _ (place : TextPlace) where
           )
 
   abbrev Refers : List ℕ → List ℕ → Type 0
-  Refers name beyond = (c : ℕ) × (reference_value name ≡ Some c) × ((u : List ℕ) × Means beyond u)
+  Refers name beyond = (c : ℕ) × (reference_value name ≡ Some c) × ((u : List ℕ) × SpellsIn beyond u)
 
   reference_ahead : (name beyond : List ℕ) → AllAre (is_but semicolon) name → (t : List ℕ)
-      → Means (ampersand ∷ (name ++ (semicolon ∷ beyond))) t
+      → SpellsIn (ampersand ∷ (name ++ (semicolon ∷ beyond))) t
       → Refers name beyond
   reference_ahead name beyond f t x = first x.parts x.taken
     where
@@ -99,7 +99,7 @@ module _ (place : TextPlace) where
       first [] l = absurd (no_cons ampersand (name ++ (semicolon ∷ beyond)) l)
       first (p ∷ ps) l = refers p ps l.0 l.1 l.2
 
-  no_reference : (after : List ℕ) → AllAre (is_but semicolon) after → (t : List ℕ) → Means (ampersand ∷ after) t → ⊥
+  no_reference : (after : List ℕ) → AllAre (is_but semicolon) after → (t : List ℕ) → SpellsIn (ampersand ∷ after) t → ⊥
   no_reference after f t x = first x.parts x.taken
     where
       inside : (name rest : List ℕ) (bs : List ℕ) → AllAre (is_but semicolon) bs → bs ≡ name ++ (semicolon ∷ rest) → ⊥
@@ -124,31 +124,31 @@ module _ (place : TextPlace) where
 
   -- how a reading goes on: what is left means what is missing
   pub record Along (written made rest : List ℕ) : Type 0 where
-    pub found : (u : List ℕ) → Means rest u → Means written (made ++ u)
-    pub ahead : (t : List ℕ) → Means written t → (u : List ℕ) × Means rest u
+    pub found : (u : List ℕ) → SpellsIn rest u → SpellsIn written (made ++ u)
+    pub ahead : (t : List ℕ) → SpellsIn written t → (u : List ℕ) × SpellsIn rest u
 
   pub along_start : (written made : List ℕ) → made ≡ [] → Along written made written
   along_start written made e = record {
-    found = λ u x. subst (λ (m : List ℕ). Means written (m ++ u)) (sym e) x;
+    found = λ u x. subst (λ (m : List ℕ). SpellsIn written (m ++ u)) (sym e) x;
     ahead = λ t x. (t, x);
   }
 
   module _ (written made rest run after : List ℕ) (along : Along written made rest) (c : CutsAt ampersand rest run after) where
-    reference_left : (t : List ℕ) → Means written t → (u : List ℕ) × Means (ampersand ∷ after) u
+    reference_left : (t : List ℕ) → SpellsIn written t → (u : List ℕ) × SpellsIn (ampersand ∷ after) u
     reference_left t x =
         let a = along.ahead t x in
-        run_ahead run (ampersand ∷ after) c.passes refl a.0 (subst (λ (b : List ℕ). Means b a.0) c.bytes_are a.1)
+        run_ahead run (ampersand ∷ after) c.passes refl a.0 (subst (λ (b : List ℕ). SpellsIn b a.0) c.bytes_are a.1)
 
-    pub along_unended : AllAre (is_but semicolon) after → (t : List ℕ) × Means written t → ⊥
+    pub along_unended : AllAre (is_but semicolon) after → (t : List ℕ) × SpellsIn written t → ⊥
     along_unended f s = let r = reference_left s.0 s.1 in no_reference after f r.0 r.1
 
     module _ (name beyond : List ℕ) (d : CutsAt semicolon after name beyond) where
-      referred_left : (t : List ℕ) → Means written t → Refers name beyond
+      referred_left : (t : List ℕ) → SpellsIn written t → Refers name beyond
       referred_left t x =
           let r = reference_left t x in
-          reference_ahead name beyond d.passes r.0 (subst (λ (b : List ℕ). Means (ampersand ∷ b) r.0) d.bytes_are r.1)
+          reference_ahead name beyond d.passes r.0 (subst (λ (b : List ℕ). SpellsIn (ampersand ∷ b) r.0) d.bytes_are r.1)
 
-      pub along_unknown : reference_value name ≡ None → (t : List ℕ) × Means written t → ⊥
+      pub along_unknown : reference_value name ≡ None → (t : List ℕ) × SpellsIn written t → ⊥
       along_unknown e s =
           let r = referred_left s.0 s.1 in
           let wrong : ◌≡◌ {A = Option ℕ} None (Some r.0) = sym e ∙ r.1 in
@@ -164,20 +164,20 @@ module _ (place : TextPlace) where
             let m = run_found run (ampersand ∷ (name ++ (semicolon ∷ beyond))) (encode_utf8 ch ++ u) c.passes refl
             (reference_found name beyond u ch d.passes e x) in
             let all = along.found (part_in place (Plain run) ++ (encode_utf8 ch ++ u))
-            (subst (λ (b : List ℕ). Means b (part_in place (Plain run) ++ (encode_utf8 ch ++ u))) (sym whole) m) in
+            (subst (λ (b : List ℕ). SpellsIn b (part_in place (Plain run) ++ (encode_utf8 ch ++ u))) (sym whole) m) in
             let joined : made ++ (part_in place (Plain run) ++ (encode_utf8 ch ++ u)) ≡ new ++ u
             = sym (ap (λ x. x ++ u) is ∙ append_assoc (made ++ part_in place (Plain run)) (encode_utf8 ch) u
             ∙ append_assoc made (part_in place (Plain run)) (encode_utf8 ch ++ u)) in
-            subst (Means written) joined all;
+            subst (SpellsIn written) joined all;
         ahead = λ t x. (referred_left t x).2;
       }
 
   pub along_end : (written made rest text : List ℕ) → Along written made rest → AllAre (is_but ampersand) rest → text ≡ made
-      ++ part_in place (Plain rest) → Means written text
+      ++ part_in place (Plain rest) → SpellsIn written text
   along_end written made rest text along f e =
-      let nothing : Means [] [] = record { parts = []; taken = refl; text_is = refl } in
+      let nothing : SpellsIn [] [] = record { parts = []; taken = refl; text_is = refl } in
       let m = run_found rest [] [] f tt nothing in
-      let n : Means rest (part_in place (Plain rest)) =
-      subst (λ (b : List ℕ). Means b (part_in place (Plain rest))) (append-nil rest)
-      (subst (Means (rest ++ [])) (append-nil (part_in place (Plain rest))) m) in
-      subst (Means written) (sym e) (along.found (part_in place (Plain rest)) n)
+      let n : SpellsIn rest (part_in place (Plain rest)) =
+      subst (λ (b : List ℕ). SpellsIn b (part_in place (Plain rest))) (append-nil rest)
+      (subst (SpellsIn (rest ++ [])) (append-nil (part_in place (Plain rest))) m) in
+      subst (SpellsIn written) (sym e) (along.found (part_in place (Plain rest)) n)
