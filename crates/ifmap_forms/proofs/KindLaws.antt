@@ -15,6 +15,7 @@ use Rattle.ifmap_ident.specs.declared.kinds.Kind.{Kind}
 use Rattle.ifmap_forms.specs.declared.errors.FormError.{FormError}
 use Rattle.ifmap_forms.specs.declared.errors.FormError.TheVariants.{Named, NoMemory}
 use Rattle.ifmap_forms.specs.Answers.{IsCheckRefusal}
+use Rattle.ifmap_forms.specs.Checks.{ok_value}
 use Rattle.ifmap_forms.specs.Gathering.{after_made}
 use Rattle.ifmap_forms.specs.PositionLaws.{at_place, no_place, place_inside, place_is}
 use Rattle.ifmap_lemmas.specs.Separated.{comma_parts, part_before, part_of_all}
@@ -69,10 +70,7 @@ no_comma text h = part_of_all (byte ",") text (no_place is_comma text h)
 
 -- ---- 3. kinds
 
-abbrev good : Kind → Result Kind Code
-good kind = Ok kind
-
-pub kind_goes_on : (piece : List ℕ) (pieces : List (List ℕ)) (kind : Kind) → piece_check piece (good kind)
+pub kind_goes_on : (piece : List ℕ) (pieces : List (List ℕ)) (kind : Kind) → piece_check piece (ok_value kind)
     → (found : Result (List Kind) Code) → kinds_check pieces found → kinds_check (piece ∷ pieces) (after_made (kind ∷ []) found)
 kind_goes_on piece pieces kind is (Ok kinds) f = (kind, is, (kinds, f, refl))
 kind_goes_on piece pieces kind is (Err code) f = inr (kind, is, inl f)
@@ -82,5 +80,5 @@ pub kind_stops : (piece : List ℕ) (pieces : List (List ℕ)) (error : FormErro
 kind_stops piece pieces (Named code) f = inl f
 kind_stops piece pieces NoMemory f = tt
 
-pub last_kind : (piece : List ℕ) (kind : Kind) → piece_check piece (good kind) → kinds_check (piece ∷ []) (Ok (kind ∷ []))
+pub last_kind : (piece : List ℕ) (kind : Kind) → piece_check piece (ok_value kind) → kinds_check (piece ∷ []) (Ok (kind ∷ []))
 last_kind piece kind is = (kind, is, ([], refl, refl))

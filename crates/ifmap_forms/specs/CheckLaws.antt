@@ -4,16 +4,10 @@ use Rattle.std.specs.Prelude.{◌≡◌, ℕ, ◌^◌, nat_lt, Bool, true, false
 use Rattle.std.proofs.Common.{◌∙◌, inl, inr, subst, sym}
 use Rattle.ifmap_ident.specs.declared.codes.Code.{Code}
 use Rattle.ifmap_ident.specs.declared.codes.Code.TheVariants.{Failure}
-use Rattle.ifmap_forms.specs.Checks.{Check, IsConclusive, IsSingle, check_if, check_then, fail, need, need_some, pass}
+use Rattle.ifmap_forms.specs.Checks.{Check, IsConclusive, IsSingle, check_if, check_then, err_value, fail, need, need_some, ok_value, pass}
 use Rattle.ifmap_forms.specs.Values.{number_of_digits, word_check}
 
 module _ {X : Type 0} where
-  abbrev ok_value : X → Result X Code
-  ok_value x = Ok x
-
-  abbrev err_value : Code → Result X Code
-  err_value code = Err code
-
   pub pass_single : (x : X) → IsSingle (pass x)
   pass_single x one other a b = a ∙ sym b
 

@@ -7,6 +7,13 @@ abbrev pub Check : Type 0 → Type 1
 Check X = Result X Code → Type 0
 
 module _ {X : Type 0} where
+  -- a value that is found, and the code of a defect
+  abbrev pub ok_value : X → Result X Code
+  ok_value x = Ok x
+
+  abbrev pub err_value : Code → Result X Code
+  err_value code = Err code
+
   -- it finds this value
   abbrev pub pass : X → Check X
   pass x found = found ≡ Ok x

@@ -22,7 +22,7 @@ use Rattle.ifmap_ident.specs.Laws.{HasAnswer}
 use Rattle.ifmap_ident.specs.SameLaws.{greater_identifier_differs}
 use Rattle.ifmap_forms.specs.AnswerLaws.{found_after}
 use Rattle.ifmap_forms.specs.CheckLaws.{need_done, pass_done, then_done}
-use Rattle.ifmap_forms.specs.Checks.{IsConclusive, check_then, need, pass}
+use Rattle.ifmap_forms.specs.Checks.{IsConclusive, check_then, need, ok_value, pass}
 use Rattle.ifmap_forms.specs.Items.{identifier_check, identifiers_check, item_of, may_follow}
 use Rattle.ifmap_forms.specs.Tables.{Part}
 
@@ -58,22 +58,19 @@ module _ (identifier : (e : Element) → IsConclusive (identifier_check e)) wher
 
 -- ---- an item's identifiers are found again
 
-abbrev good : {X : Type 0} → X → Result X Code
-good x = Ok x
-
 module _ (canon : (i : Identifier) → IsIdentifier i → IsCanon (identifier_element i) i) where
   may_second : (a b : Identifier) → same_identifier b a ≡ false → may_follow 2 (a ∷ []) b ≡ true
   may_second a b other = ap (λ (t : Bool). nat_lt 1 2 && not (t || false)) other
 
   pub identifiers_back : (item : Item) → IsCanonItem item
-      → identifiers_check 2 [] (as_parts (map identifier_element (identifiers_of item))) (good (identifiers_of item))
+      → identifiers_check 2 [] (as_parts (map identifier_element (identifiers_of item))) (ok_value (identifiers_of item))
   identifiers_back (One a) f = (a, canon a f.identifiers.0, ([], refl, refl))
   identifiers_back (Pair a b) f =
-      let second : identifiers_check 2 (a ∷ []) (as_parts (map identifier_element (b ∷ []))) (good (b ∷ [])) = (
+      let second : identifiers_check 2 (a ∷ []) (as_parts (map identifier_element (b ∷ []))) (ok_value (b ∷ [])) = (
         b,
         canon b f.identifiers.1.0,
         found_after (check_then (identifiers_check 2 (a ∷ (b ∷ [])) []) (λ others. pass (b ∷ others))) (may_follow 2 (a ∷ []) b) Failure
-            (good (b ∷ [])) (may_second a b (greater_identifier_differs a b f.ordered)) ([], refl, refl),
+            (ok_value (b ∷ [])) (may_second a b (greater_identifier_differs a b f.ordered)) ([], refl, refl),
       ) in
       (a, canon a f.identifiers.0, (b ∷ [], second, refl))
 

@@ -2,7 +2,7 @@
 -- 1. What checks give, for what is composed of checks: it is enough to know it of the smallest ones.
 -- 2. Attributes, 3. identifiers and items, 4. metadata.
 -- 5. Operations and requests: each is one more form in a chain. 6. Bodies.
-use Rattle.std.proofs.Common.{◌≡◌, ◌≤◌, ◌+◌, ◌++◌, ℕ, Bool, true, false, List, [], ◌∷◌, Option, None, Some, IfSome, Result, Ok, Err, codes}
+use Rattle.std.proofs.Common.{◌≡◌, ◌≤◌, ◌+◌, ◌++◌, ℕ, Bool, true, false, List, [], ◌∷◌, Option, None, Some, IfSome, Ok, codes}
 use Rattle.std.proofs.Common.{length, refl, arith, subst, sym}
 use Rattle.std.specs.Prelude.{◌&&◌, nat_le}
 use Rattle.std.specs.List.{AllByRecursion, list_all}
@@ -28,7 +28,7 @@ use Rattle.ifmap_ident.specs.Items.{IsCanonItem, ordered_pair}
 use Rattle.ifmap_ident.specs.Parts.{has_only, value_of}
 use Rattle.ifmap_meta.specs.declared.metadata.Metadata.{Metadata}
 use Rattle.ifmap_meta.specs.Whole.{IsMadeOf, IsMetadata, level_limit}
-use Rattle.ifmap_forms.specs.Checks.{Check, check_if, check_then, fail, need, need_some, pass}
+use Rattle.ifmap_forms.specs.Checks.{Check, check_if, check_then, err_value, fail, need, need_some, ok_value, pass}
 use Rattle.ifmap_forms.specs.Items.{before_list, from_list, identifier_check, identifiers_check, item_content, item_of, list_if_there, list_check}
 use Rattle.ifmap_forms.specs.Items.{may_follow, start_content}
 use Rattle.ifmap_forms.specs.Scopes.{Scopes, scopes_below}
@@ -67,17 +67,11 @@ module _ {X : Type 0} where
   Gives check P = (x : X) → check (Ok x) → P x
 
 module _ {X : Type 0} (P : X → Type 0) where
-  abbrev good : X → Result X Code
-  good x = Ok x
-
-  abbrev bad : Code → Result X Code
-  bad code = Err code
-
   pass_gives : (x : X) → P x → Gives (pass x) P
-  pass_gives x p y e = let same : good y ≡ good x = e in let is : y ≡ x = cc in subst P (sym is) p
+  pass_gives x p y e = let same : ok_value y ≡ ok_value x = e in let is : y ≡ x = cc in subst P (sym is) p
 
   fail_gives : (code : Code) → Gives (fail code) P
-  fail_gives code y e = let wrong : good y ≡ bad code = e in cc
+  fail_gives code y e = let wrong : ok_value y ≡ err_value code = e in cc
 
   need_gives : (b : Bool) (code : Code) (check : Check X) → Gives check P → Gives (need b code check) P
   need_gives true code check g = g

@@ -6,7 +6,7 @@
 -- 5. Operations and requests.
 -- 6. Bodies.
 use Rattle.std.proofs.Common.{◌≡◌, ◌⊎◌, ◌∙◌, ◌++◌, ◌+◌, ◌<◌, ◌≤◌, ◌^◌, ◌&&◌, ℕ, suc, min, Bool, true, false, List, [], ◌∷◌, Option, None}
-use Rattle.std.proofs.Common.{Some, IfSome, Result, Ok, Err, length, map, refl, ap, sym, subst, inl, inr, arith}
+use Rattle.std.proofs.Common.{Some, IfSome, Ok, length, map, refl, ap, sym, subst, inl, inr, arith}
 use Rattle.std.specs.Prelude.{if◌then◌else◌, nat_le, nat_lt}
 use Rattle.std.specs.List.{AllByRecursion, list_all}
 use Rattle.std.specs.Str.{bytes_eq}
@@ -29,7 +29,7 @@ use Rattle.ifmap_ident.specs.declared.items.Item.{Item}
 use Rattle.ifmap_ident.specs.Parts.{has_only, value_of}
 use Rattle.ifmap_meta.specs.declared.metadata.Metadata.{Metadata}
 use Rattle.ifmap_meta.specs.Stamps.{content_of}
-use Rattle.ifmap_requests.specs.ifmap_forms.Checks.{Check, check_if, check_then, fail, need, need_some, pass}
+use Rattle.ifmap_requests.specs.ifmap_forms.Checks.{Check, check_if, check_then, err_value, fail, need, need_some, ok_value, pass}
 use Rattle.ifmap_requests.specs.ifmap_forms.Items.{from_list, is_list, item_of, list_if_there, list_check}
 use Rattle.ifmap_requests.specs.ifmap_forms.Scopes.{Scopes, scopes_below}
 use Rattle.ifmap_requests.specs.ifmap_forms.Tables.{Both, ElementForm, Part, AttributeTable, table_with, both, each_element, form_check, form_or, no_attributes, parts_in}
@@ -57,28 +57,22 @@ use Rattle.ifmap_elem.specs.Building.{is_name}
 
 -- ---- (1) checks taken apart
 
-abbrev good : {X : Type 0} → X → Result X Code
-good x = Ok x
-
-abbrev bad : {X : Type 0} → Code → Result X Code
-bad code = Err code
-
 module _ {X : Type 0} where
-  needed : (b : Bool) (code : Code) (check : Check X) (x : X) → need b code check (good x) → (b ≡ true) × check (good x)
+  needed : (b : Bool) (code : Code) (check : Check X) (x : X) → need b code check (ok_value x) → (b ≡ true) × check (ok_value x)
   needed true code check x h = (refl, h)
-  needed false code check x h = let wrong : good x ≡ bad code = h in cc
+  needed false code check x h = let wrong : ok_value x ≡ err_value code = h in cc
 
-  either_found : (b : Bool) (one other : Check X) (x : X) → check_if b one other (good x) → one (good x) ⊎ other (good x)
+  either_found : (b : Bool) (one other : Check X) (x : X) → check_if b one other (ok_value x) → one (ok_value x) ⊎ other (ok_value x)
   either_found true one other x h = inl h
   either_found false one other x h = inr h
 
-  passed : (x y : X) → good x ≡ good y → x ≡ y
+  passed : (x y : X) → ok_value x ≡ ok_value y → x ≡ y
   passed x y h = cc
 
 module _ {X Y : Type 0} where
-  some_found : (code : Code) (o : Option X) (check : X → Check Y) (y : Y) → need_some code o check (good y)
-      → (x : X) × (o ≡ Some x) × check x (good y)
-  some_found code None check y h = let wrong : good y ≡ bad code = h in cc
+  some_found : (code : Code) (o : Option X) (check : X → Check Y) (y : Y) → need_some code o check (ok_value y)
+      → (x : X) × (o ≡ Some x) × check x (ok_value y)
+  some_found code None check y h = let wrong : ok_value y ≡ err_value code = h in cc
   some_found code (Some x) check y h = (x, refl, h)
 
 module _ {X A C : Type 0} (form : ElementForm A C) (make : A → C → X) (scopes : Scopes) (e : Element) (x : X) where
@@ -86,11 +80,11 @@ module _ {X A C : Type 0} (form : ElementForm A C) (make : A → C → X) (scope
   pub record Parts : Type 0 where
     pub first : A
     pub others : C
-    pub attributes : form.attributes.reads (scopes []) e (good first)
-    pub content : form.content scopes (element_parts e) (good others)
+    pub attributes : form.attributes.reads (scopes []) e (ok_value first)
+    pub content : form.content scopes (element_parts e) (ok_value others)
     pub made : x ≡ make first others
 
-  form_parts : form_check form make scopes e (good x) → Parts
+  form_parts : form_check form make scopes e (ok_value x) → Parts
   form_parts h =
       let r = h.1 in
       let inner = needed (has_only (form.passed_over ++ form.attributes.locals) e) Failure
@@ -105,18 +99,18 @@ module _ {X A C : Type 0} (form : ElementForm A C) (make : A → C → X) (scope
       }
 
 module _ {X Y : Type 0} (field : Field X) (table : AttributeTable Y) (scope : Scope) (e : Element) (b : Both X Y) where
-  beside_parts : (table_with field table).reads scope e (good b)
-      → field_check field scope e (good b.first) × table.reads scope e (good b.others)
+  beside_parts : (table_with field table).reads scope e (ok_value b)
+      → field_check field scope e (ok_value b.first) × table.reads scope e (ok_value b.others)
   beside_parts h =
       let is : both h.0 h.2.0 ≡ b = sym (passed b (both h.0 h.2.0) h.2.2) in (
-        subst (λ (c : Both X Y). field_check field scope e (good c.first)) is h.1,
-        subst (λ (c : Both X Y). table.reads scope e (good c.others)) is h.2.1,
+        subst (λ (c : Both X Y). field_check field scope e (ok_value c.first)) is h.1,
+        subst (λ (c : Both X Y). table.reads scope e (ok_value c.others)) is h.2.1,
       )
 
 -- ---- (2) values
 
-name_bounded : (o : Option (List ℕ)) (name : List ℕ) → read_name o (good name) → IsBoundedName name
-name_bounded None name h = let wrong : good name ≡ bad Failure = h in cc
+name_bounded : (o : Option (List ℕ)) (name : List ℕ) → read_name o (ok_value name) → IsBoundedName name
+name_bounded None name h = let wrong : ok_value name ≡ err_value Failure = h in cc
 name_bounded (Some text) name h =
     let found = needed (nat_le 1 (length text) && nat_le (length text) longest_name) Failure (pass text) name h in
     let tests = and_parts (nat_le 1 (length text)) (nat_le (length text) longest_name) found.0 in
@@ -126,7 +120,7 @@ name_bounded (Some text) name h =
     let few : length text ≤ longest_name = grind (arith, nat_tests) in
     subst IsBoundedName (sym (passed name text found.1)) (record { some = some; few = few })
 
-depth_bounded : (o : Option (List ℕ)) (n : ℕ) → read_depth o (good n) → n < 2 ^ 32
+depth_bounded : (o : Option (List ℕ)) (n : ℕ) → read_depth o (ok_value n) → n < 2 ^ 32
 depth_bounded None n h = let is : n ≡ 0 = passed n 0 h in omega (arith, is)
 depth_bounded (Some text) n h =
     let found = some_found Failure (number_of_digits text) (λ m. need (nat_lt m (2 ^ 32)) Failure (pass m)) n h in
@@ -136,14 +130,14 @@ depth_bounded (Some text) n h =
     let low : found.0 < 2 ^ 32 = grind (arith, nat_tests) in
     subst (λ (m : ℕ). m < 2 ^ 32) (sym is) low
 
-size_bounded : (o : Option (List ℕ)) (n : ℕ) → read_size o (good n) → n ≤ greatest_size
+size_bounded : (o : Option (List ℕ)) (n : ℕ) → read_size o (ok_value n) → n ≤ greatest_size
 size_bounded None n h = let is : n ≡ usual_size = passed n usual_size h in omega (arith, is)
 size_bounded (Some text) n h =
     let found = some_found Failure (number_of_digits text) (λ m. pass (min m greatest_size)) n h in
     let is : n ≡ min found.0 greatest_size = passed n (min found.0 greatest_size) found.2 in
     omega (arith, is)
 
-search_bounded : (scope : Scope) (e : Element) (v : SearchValues) → search_attributes.reads scope e (good v)
+search_bounded : (scope : Scope) (e : Element) (v : SearchValues) → search_attributes.reads scope e (ok_value v)
     → (v.others.first < 2 ^ 32) × (v.others.others.first ≤ greatest_size)
 search_bounded scope e v h =
     let first = beside_parts links_field after_links scope e v h in
@@ -197,8 +191,8 @@ module _ (n : ℕ) where
 
 -- each of elements that nest so deep at most
 module _ {X : Type 0} (n : ℕ) (one : ℕ → Element → Check X) (P : X → Type 0)
-    (gives : (index : ℕ) (e : Element) (x : X) → nesting e ≤ n → one index e (good x) → P x) where
-  each_given : (parts : List Part) (index : ℕ) (xs : List X) → AreLow n parts → each_element one index parts (good xs)
+    (gives : (index : ℕ) (e : Element) (x : X) → nesting e ≤ n → one index e (ok_value x) → P x) where
+  each_given : (parts : List Part) (index : ℕ) (xs : List X) → AreLow n parts → each_element one index parts (ok_value xs)
       → AllByRecursion P xs
   each_given [] index xs low h = subst (AllByRecursion P) (sym (passed xs [] h)) tt
   each_given (Child-F.Element e ∷ parts) index xs low h =
@@ -213,12 +207,12 @@ content_nests : (e : Element) → nesting (content_of e) ≡ nesting e
 content_nests e =
     at_element ℕ ℕ child_levels element_levels (content_of e) ∙ sym (at_element ℕ ℕ child_levels element_levels e)
 
-metadata_bounded : (index : ℕ) (e : Element) (m : Metadata) → nesting e ≤ 59 → metadata_check e (good m) → IsBoundedMetadata m
+metadata_bounded : (index : ℕ) (e : Element) (m : Metadata) → nesting e ≤ 59 → metadata_check e (ok_value m) → IsBoundedMetadata m
 metadata_bounded index e m low made =
     let is : nesting m.element ≡ nesting e = ap nesting made.element ∙ nesting_arranged (content_of e) ∙ content_nests e in
     omega (arith, is, low)
 
-list_bounded : (e : Element) (elements : List Metadata) → nesting e ≤ 60 → list_check metadata_check e (good elements)
+list_bounded : (e : Element) (elements : List Metadata) → nesting e ≤ 60 → list_check metadata_check e (ok_value elements)
     → AllByRecursion IsBoundedMetadata elements
 list_bounded e elements low h =
     each_given 59 (λ index inner. metadata_check inner) IsBoundedMetadata metadata_bounded (element_parts e) 0 elements (parts_low 59 e low)
@@ -227,15 +221,15 @@ list_bounded e elements low h =
 abbrev AreBounded : Option (List Metadata) → Type 0
 AreBounded list = IfSome list (λ elements. AllByRecursion IsBoundedMetadata elements)
 
-list_at_bounded : (parts : List Part) (list : Option (List Metadata)) → AreLow 60 parts → list_if_there metadata_check parts (good list)
+list_at_bounded : (parts : List Part) (list : Option (List Metadata)) → AreLow 60 parts → list_if_there metadata_check parts (ok_value list)
     → AreBounded list
 list_at_bounded [] list low h = subst AreBounded (sym (passed list None h)) tt
 list_at_bounded (Child-F.Element e ∷ after) list low h =
     let found = needed (list_all _ after) Failure (pass (Some h.0)) list h.2 in
     subst AreBounded (sym (passed list (Some h.0) found.1)) (list_bounded e h.0 low.0 h.1)
-list_at_bounded (Child-F.Text text ∷ after) list low h = let wrong : good list ≡ bad Failure = h in cc
+list_at_bounded (Child-F.Text text ∷ after) list low h = let wrong : ok_value list ≡ err_value Failure = h in cc
 
-published_bounded : (parts : List Part) (b : Both Item (List Metadata)) → AreLow 60 parts → published_check parts (good b)
+published_bounded : (parts : List Part) (b : Both Item (List Metadata)) → AreLow 60 parts → published_check parts (ok_value b)
     → AllByRecursion IsBoundedMetadata b.others
 published_bounded parts b low h =
     let list = h.2.0 in
@@ -247,7 +241,7 @@ published_bounded parts b low h =
 
 -- ---- (5) operations and requests
 
-publish_bounded : (scopes : Scopes) (e : Element) (op : PublishOp) → nesting e ≤ 61 → publish_op_check scopes e (good op)
+publish_bounded : (scopes : Scopes) (e : Element) (op : PublishOp) → nesting e ≤ 61 → publish_op_check scopes e (ok_value op)
     → IsBoundedPublish op
 publish_bounded scopes e op low h = elim
     (either_found (is_name e.name update_form.name) (form_check update_form update_from_form scopes e) _ op
@@ -263,7 +257,7 @@ publish_bounded scopes e op low h = elim
             (either_found (is_name e.name delete_form.name) (form_check delete_form delete_from_form scopes e) (fail Failure) op
             last) [
               | inl found ↦ let p = form_parts delete_form delete_from_form scopes e op found in subst IsBoundedPublish (sym p.made) tt
-              | inr wrong ↦ let apart : good op ≡ bad Failure = wrong in cc
+              | inr wrong ↦ let apart : ok_value op ≡ err_value Failure = wrong in cc
             ]
       ]
     ]
@@ -272,7 +266,7 @@ bounded_of : (start : Identifier) (v : SearchValues) → (v.others.first < 2 ^ 3
     → IsBoundedSearch (search_from start v)
 bounded_of start v b = record { depth = b.0; size = b.1 }
 
-subscribe_bounded : (scopes : Scopes) (e : Element) (op : SubscribeOp) → subscribe_op_check scopes e (good op) → IsBoundedSubscribe op
+subscribe_bounded : (scopes : Scopes) (e : Element) (op : SubscribeOp) → subscribe_op_check scopes e (ok_value op) → IsBoundedSubscribe op
 subscribe_bounded scopes e op h =
     elim (either_found (is_name e.name subscription_form.name) (form_check subscription_form subscription_from_form scopes e) _ op h) [
       | inl found ↦
@@ -288,26 +282,26 @@ subscribe_bounded scopes e op h =
                 let p = form_parts end_form end_from_form scopes e op found in
                 let a = beside_parts name_field no_attributes (scopes []) e p.first p.attributes in
                 subst IsBoundedSubscribe (sym p.made) (name_bounded (value_of name_field.local e) p.first.first a.0)
-            | inr wrong ↦ let apart : good op ≡ bad Failure = wrong in cc
+            | inr wrong ↦ let apart : ok_value op ≡ err_value Failure = wrong in cc
           ]
     ]
 
 module _ (scopes : Scopes) (e : Element) (r : Request) where
   -- a form whose requests have no bounds, or another
   free : {A C : Type 0} (form : ElementForm A C) (make : A → C → Request) (other : Check Request) → ((a : A) (c : C) → IsBounded (make a c))
-      → (other (good r) → IsBounded r) → form_or form make scopes e other (good r) → IsBounded r
+      → (other (ok_value r) → IsBounded r) → form_or form make scopes e other (ok_value r) → IsBounded r
   free form make other own later h = elim (either_found (is_name e.name form.name) (form_check form make scopes e) other r h) [
     | inl found ↦ let p = form_parts form make scopes e r found in subst IsBounded (sym p.made) (own p.first p.others)
     | inr rest ↦ later rest
   ]
 
-  none_bounded : fail Failure (good r) → IsBounded r
-  none_bounded h = let wrong : good r ≡ bad Failure = h in cc
+  none_bounded : fail Failure (ok_value r) → IsBounded r
+  none_bounded h = let wrong : ok_value r ≡ err_value Failure = h in cc
 
-  purge_bounded : from_purge scopes e (good r) → IsBounded r
+  purge_bounded : from_purge scopes e (ok_value r) → IsBounded r
   purge_bounded = free purge_form purge_of (fail Failure) (λ a c. tt) none_bounded
 
-  subscribes_bounded : from_subscribe scopes e (good r) → IsBounded r
+  subscribes_bounded : from_subscribe scopes e (ok_value r) → IsBounded r
   subscribes_bounded h = elim (either_found (is_name e.name subscribe_form.name) (form_check subscribe_form subscribe_of scopes e)
       (from_purge scopes e) r h) [
         | inl found ↦
@@ -319,7 +313,7 @@ module _ (scopes : Scopes) (e : Element) (r : Request) where
         | inr rest ↦ purge_bounded rest
       ]
 
-  searches_bounded : from_search scopes e (good r) → IsBounded r
+  searches_bounded : from_search scopes e (ok_value r) → IsBounded r
   searches_bounded h = elim (either_found (is_name e.name search_form.name) (form_check search_form search_of scopes e)
       (from_subscribe scopes e) r h) [
         | inl found ↦
@@ -329,14 +323,14 @@ module _ (scopes : Scopes) (e : Element) (r : Request) where
         | inr rest ↦ subscribes_bounded rest
       ]
 
-  other_bounded : other_request_check scopes e (good r) → IsBounded r
+  other_bounded : other_request_check scopes e (ok_value r) → IsBounded r
   other_bounded =
       free new_session_form new_session_of (from_renewal scopes e) (λ a c. tt)
       (free renew_form renewal_of (from_end_session scopes e) (λ a c. tt)
       (free end_session_form end_session_of (from_poll scopes e) (λ a c. tt)
       (free poll_form poll_of (from_search scopes e) (λ a c. tt) searches_bounded)))
 
-  request_bounded : nesting e ≤ 62 → request_check scopes e (good r) → IsBounded r
+  request_bounded : nesting e ≤ 62 → request_check scopes e (ok_value r) → IsBounded r
   request_bounded low h =
       let named = (needed (bytes_eq e.name.space ifmap_space) InvalidSchemaVersion (named_request_check scopes e) r h).1 in
       elim (either_found (is_name e.name publish_form.name) (form_check publish_form publish_of scopes e) (other_request_check scopes e) r

@@ -5,8 +5,8 @@
 -- 4. Searches.
 -- 5. Operations.
 -- 6. Requests.
-use Rattle.std.proofs.Common.{◌≡◌, ◌∙◌, ◌+◌, ◌≤◌, ℕ, true, false, List, [], ◌∷◌, Option, None, Some, IfSome, Result}
-use Rattle.std.proofs.Common.{Ok, codes, map, refl, ap, sym, subst}
+use Rattle.std.proofs.Common.{◌≡◌, ◌∙◌, ◌+◌, ◌≤◌, ℕ, true, false, List, [], ◌∷◌, Option, None, Some, IfSome}
+use Rattle.std.proofs.Common.{codes, map, refl, ap, sym, subst}
 use Rattle.std.specs.List.{AllByRecursion}
 use Rattle.ifmap_elem.specs.Building.{bare_name, is_bare, as_children}
 use Rattle.ifmap_elem.specs.declared.elements.Child.{Child}
@@ -18,7 +18,6 @@ use Rattle.ifmap_ident.specs.ifmap_reader.declared.scoping.Scope.{Scope}
 use Rattle.ifmap_filter.specs.declared.filters.Filter.{Filter}
 use Rattle.ifmap_filter.specs.Printing.{filter_text}
 use Rattle.ifmap_filter.specs.Texts.{WritesFilter}
-use Rattle.ifmap_ident.specs.declared.codes.Code.{Code}
 use Rattle.ifmap_ident.specs.declared.codes.Code.TheVariants.{Failure}
 use Rattle.ifmap_ident.specs.declared.identifiers.Identifier.{Identifier}
 use Rattle.ifmap_ident.specs.declared.identifiers.Identifier.TheVariants.{AccessRequest, Device, Identity, IpV4, IpV6, MacAddress}
@@ -32,7 +31,7 @@ use Rattle.ifmap_meta.specs.declared.metadata.Metadata.{Metadata}
 use Rattle.ifmap_meta.specs.Whole.{IsMadeOf, IsMetadata}
 use Rattle.ifmap_search.specs.declared.searches.Search as search
 use Rattle.ifmap_requests.specs.ifmap_forms.AnswerLaws.{found_alone, found_beside, found_form}
-use Rattle.ifmap_requests.specs.ifmap_forms.Checks.{Check, need_some, pass}
+use Rattle.ifmap_requests.specs.ifmap_forms.Checks.{Check, need_some, ok_value, pass}
 use Rattle.ifmap_requests.specs.ifmap_forms.Items.{before_list, from_list, identifiers_check, item_check, list_if_there, list_check}
 use Rattle.ifmap_requests.specs.ifmap_forms.Items.{start_check}
 use Rattle.ifmap_requests.specs.ifmap_forms.Scopes.{Scopes, scopes_below}
@@ -65,9 +64,6 @@ use Rattle.ifmap_writing.specs.RequestElements.{published_children, subscribe_el
 use Rattle.ifmap_writing.proofs.RowLaws.{only_rows, or_none, row_value, value_found}
 use Rattle.ifmap_writing.proofs.ValueLaws.{depth_back, kinds_back, lifetime_back, limit_back, name_back, size_back}
 use Rattle.ifmap_writing.proofs.WrittenLaws.{published_are, published_elements}
-
-abbrev good : {X : Type 0} → X → Result X Code
-good x = Ok x
 
 -- ---- (1) what filters are read back
 
@@ -116,13 +112,13 @@ with_rows name rows children = record { name = name; attributes = attributes_of 
 
 -- the attribute is read back where its row is
 field_back : {X : Type 0} (field : Field X) (scope : Scope) (name : Name) (rows : List NamedValue) (children : List Child)
-    (value : Option (List ℕ)) (x : X) → row_value field.local rows ≡ value → field.reads scope value (good x)
-    → field_check field scope (with_rows name rows children) (good x)
+    (value : Option (List ℕ)) (x : X) → row_value field.local rows ≡ value → field.reads scope value (ok_value x)
+    → field_check field scope (with_rows name rows children) (ok_value x)
 field_back field scope name rows children value x is f =
-    subst (λ (o : Option (List ℕ)). field.reads scope o (good x)) (sym (value_found field.local rows ∙ is)) f
+    subst (λ (o : Option (List ℕ)). field.reads scope o (ok_value x)) (sym (value_found field.local rows ∙ is)) f
 
 filter_back : (spaces : List (List ℕ)) (scope : Scope) (filter : Option Filter) → IsReadIn spaces filter scope
-    → read_filter scope (filter_value spaces filter) (good filter)
+    → read_filter scope (filter_value spaces filter) (ok_value filter)
 filter_back spaces scope None w = refl
 filter_back spaces scope (Some filter) w = (filter, w, refl)
 
@@ -140,39 +136,39 @@ abbrev identifier_parts : List Identifier → List Part
 identifier_parts is = as_parts (map identifier_element is)
 
 module _ (canon : (i : Identifier) → IsIdentifier i → IsCanon (identifier_element i) i) where
-  start_back : (i : Identifier) → IsIdentifier i → start_check (parts_in (identifier_children (i ∷ []))) (good i)
+  start_back : (i : Identifier) → IsIdentifier i → start_check (parts_in (identifier_children (i ∷ []))) (ok_value i)
   start_back i f =
-      subst (λ (parts : List Part). start_check parts (good i)) (sym (parts_are (identifier_element i ∷ [])))
+      subst (λ (parts : List Part). start_check parts (ok_value i)) (sym (parts_are (identifier_element i ∷ [])))
       (i ∷ [], (i, canon i f, ([], refl, refl)), refl)
 
-  item_back : (item : Item) → IsCanonItem item → item_check (parts_in (item_children item)) (good item)
+  item_back : (item : Item) → IsCanonItem item → item_check (parts_in (item_children item)) (ok_value item)
   item_back item f =
-      subst (λ (parts : List Part). item_check parts (good item)) (sym (parts_are (map identifier_element (identifiers_of item)))) (
+      subst (λ (parts : List Part). item_check parts (ok_value item)) (sym (parts_are (map identifier_element (identifiers_of item)))) (
         identifiers_of item,
         identifiers_back canon item f,
-        subst (λ (o : Option Item). need_some Failure o (λ (x : Item). pass x) (good item)) (sym (item_of_identifiers item f)) refl,
+        subst (λ (o : Option Item). need_some Failure o (λ (x : Item). pass x) (ok_value item)) (sym (item_of_identifiers item f)) refl,
       )
 
 -- ---- (3) what is published
 
 -- elements in a list
 module _ {X : Type 0} (check : ℕ → Element → Check X) (write : X → Element) where
-  each_back : (xs : List X) (index : ℕ) → ((i : ℕ) → AllByRecursion (λ x. check i (write x) (good x)) xs)
-      → each_element check index (as_parts (map write xs)) (good xs)
+  each_back : (xs : List X) (index : ℕ) → ((i : ℕ) → AllByRecursion (λ x. check i (write x) (ok_value x)) xs)
+      → each_element check index (as_parts (map write xs)) (ok_value xs)
   each_back [] index f = refl
   each_back (x ∷ xs) index f = (x, (f index).0, (xs, each_back xs (index + 1) (λ i. (f i).1), refl))
 
 module _ (canon : (i : Identifier) → IsIdentifier i → IsCanon (identifier_element i) i)
     (made : (m : Metadata) → IsMetadata m → IsMadeOf m.element m) where
   metadata_back : (elements : List Metadata) → AllByRecursion IsMetadata elements
-      → list_check metadata_check (list_element elements) (good elements)
+      → list_check metadata_check (list_element elements) (ok_value elements)
   metadata_back elements f =
-      subst (λ (parts : List Part). each_element (λ index inner. metadata_check inner) 0 parts (good elements))
+      subst (λ (parts : List Part). each_element (λ index inner. metadata_check inner) 0 parts (ok_value elements))
       (sym (parts_are (map (λ (m : Metadata). m.element) elements)))
       (each_back (λ index inner. metadata_check inner) (λ (m : Metadata). m.element) elements 0 (λ i. each elements f))
     where
       each : (elements : List Metadata) → AllByRecursion IsMetadata elements
-          → AllByRecursion (λ (m : Metadata). metadata_check m.element (good m)) elements
+          → AllByRecursion (λ (m : Metadata). metadata_check m.element (ok_value m)) elements
       each [] f = tt
       each (m ∷ elements) f = (made m f.0, each elements f.1)
 
@@ -191,25 +187,27 @@ module _ (canon : (i : Identifier) → IsIdentifier i → IsCanon (identifier_el
   from_back (Pair a b) elements = rw (not_list a, not_list b) refl
 
   published_parts_back : (item : Item) (elements : List Metadata) → IsCanonItem item → AllByRecursion IsMetadata elements
-      → published_check (as_parts (published_elements item elements)) (good (both item elements))
+      → published_check (as_parts (published_elements item elements)) (ok_value (both item elements))
   published_parts_back item elements i f = (
     identifiers_of item,
-    subst (λ (parts : List Part). identifiers_check 2 [] parts (good (identifiers_of item))) (sym (before_back item elements))
+    subst (λ (parts : List Part). identifiers_check 2 [] parts (ok_value (identifiers_of item))) (sym (before_back item elements))
         (identifiers_back canon item i),
     (
       Some elements,
-      subst (λ (parts : List Part). list_if_there metadata_check parts (good (Some elements))) (sym (from_back item elements))
+      subst (λ (parts : List Part). list_if_there metadata_check parts (ok_value (Some elements))) (sym (from_back item elements))
           (elements, metadata_back elements f, refl),
       subst (λ (o : Option Item). need_some Failure o (λ (x : Item). need_some Failure (Some elements) (λ es. pass (both x es)))
-          (good (both item elements))) (sym (item_of_identifiers item i)) refl,
+          (ok_value (both item elements))) (sym (item_of_identifiers item i)) refl,
     ),
   )
 
   published_back : (item : Item) (elements : List Metadata) → IsCanonItem item → AllByRecursion IsMetadata elements
-      → published_check (parts_in (published_children item elements)) (good (both item elements))
+      → published_check (parts_in (published_children item elements)) (ok_value (both item elements))
   published_back item elements i f =
-      subst (λ (children : List Child). published_check (parts_in children) (good (both item elements))) (sym (published_are item elements))
-      (subst (λ (parts : List Part). published_check parts (good (both item elements))) (sym (parts_are (published_elements item elements)))
+      subst (λ (children : List Child). published_check (parts_in children) (ok_value (both item elements)))
+      (sym (published_are item elements))
+      (subst (λ (parts : List Part). published_check parts (ok_value (both item elements)))
+      (sym (parts_are (published_elements item elements)))
       (published_parts_back item elements i f))
 
   -- ---- (4) searches
@@ -223,7 +221,7 @@ module _ (canon : (i : Identifier) → IsIdentifier i → IsCanon (identifier_el
       → row_value (codes "max-size") rows ≡ number_value s.max_size
       → row_value (codes "result-filter") rows ≡ filter_value spaces s.result_filter
       → row_value (codes "terminal-identifier-type") rows ≡ kinds_value s.terminal
-      → search_attributes.reads scope (with_rows name rows children) (good (search_values s))
+      → search_attributes.reads scope (with_rows name rows children) (ok_value (search_values s))
   search_back spaces scope name rows children s w bounds links depth size result terminal = (
     s.match_links,
     field_back links_field scope name rows children (filter_value spaces s.match_links) s.match_links links
@@ -268,7 +266,7 @@ module _ (canon : (i : Identifier) → IsIdentifier i → IsCanon (identifier_el
 
   module _ (spaces : List (List ℕ)) where
     publish_back : (scopes : Scopes) (op : PublishOp) → IsFitOp op → IsReadPublish spaces op (scopes [])
-        → publish_op_check scopes (publish_element spaces op) (good op)
+        → publish_op_check scopes (publish_element spaces op) (ok_value op)
     publish_back scopes (publish.Update item elements forever) f w =
         let e : Element = publish_element spaces (publish.Update item elements forever) in
         found_form update_form update_from_form scopes e (both forever tt)
@@ -289,7 +287,7 @@ module _ (canon : (i : Identifier) → IsIdentifier i → IsCanon (identifier_el
         item (only_rows (codes "filter" ∷ []) (filter_rows spaces filter) refl) (item_back canon item f.0)
 
     subscribe_back : (scopes : Scopes) (op : SubscribeOp) → IsFitSubscribeOp op → IsBoundedSubscribe op
-        → IsReadSubscribe spaces op (scopes []) → subscribe_op_check scopes (subscribe_element spaces op) (good op)
+        → IsReadSubscribe spaces op (scopes []) → subscribe_op_check scopes (subscribe_element spaces op) (ok_value op)
     subscribe_back scopes (subscribe.Update name s) f within w =
         let rows : List NamedValue = subscription_rows spaces name s in
         let children : List Child = identifier_children (s.start ∷ []) in
@@ -315,12 +313,12 @@ module _ (canon : (i : Identifier) → IsIdentifier i → IsCanon (identifier_el
     -- the id of a session, read from rows that have it
     session_back : (scope : Scope) (name : Name) (rows : List NamedValue) (children : List Child) (session : List ℕ)
         → row_value (codes "session-id") rows ≡ Some session
-        → field_check session_field scope (with_rows name rows children) (good session)
+        → field_check session_field scope (with_rows name rows children) (ok_value session)
     session_back scope name rows children session is =
         field_back session_field scope name rows children (Some session) session is refl
 
     alone_back : (scope : Scope) (name : Name) (children : List Child) (session : List ℕ)
-        → renew_form.attributes.reads scope (with_rows name (session_rows session) children) (good (both session tt))
+        → renew_form.attributes.reads scope (with_rows name (session_rows session) children) (ok_value (both session tt))
     alone_back scope name children session =
         found_alone session_field scope (with_rows name (session_rows session) children) session
         (session_back scope name (session_rows session) children session refl)
@@ -331,30 +329,31 @@ module _ (canon : (i : Identifier) → IsIdentifier i → IsCanon (identifier_el
 
     publishes_back : (scopes : Scopes) (ops : List PublishOp) → AllByRecursion IsFitOp ops
         → ((path : List ℕ) → ArePublishRead spaces ops (scopes path))
-        → list_of publish_op_check scopes (parts_in (as_children (map (publish_element spaces) ops))) (good ops)
+        → list_of publish_op_check scopes (parts_in (as_children (map (publish_element spaces) ops))) (ok_value ops)
     publishes_back scopes ops f w =
-        subst (λ (parts : List Part). list_of publish_op_check scopes parts (good ops)) (sym (parts_are (map (publish_element spaces) ops)))
+        subst (λ (parts : List Part). list_of publish_op_check scopes parts (ok_value ops))
+        (sym (parts_are (map (publish_element spaces) ops)))
         (each_back (λ index e. publish_op_check (scopes_below scopes index) e) (publish_element spaces) ops 0
         (λ index. each index ops f (w (index ∷ []))))
       where
         each : (index : ℕ) (ops : List PublishOp) → AllByRecursion IsFitOp ops
             → ArePublishRead spaces ops (scopes (index ∷ []))
-            → AllByRecursion (λ op. publish_op_check (scopes_below scopes index) (publish_element spaces op) (good op)) ops
+            → AllByRecursion (λ op. publish_op_check (scopes_below scopes index) (publish_element spaces op) (ok_value op)) ops
         each index [] f w = tt
         each index (op ∷ ops) f w = (publish_back (scopes_below scopes index) op f.0 w.0, each index ops f.1 w.1)
 
     subscribes_back : (scopes : Scopes) (ops : List SubscribeOp) → AllByRecursion IsFitSubscribeOp ops
         → AllByRecursion IsBoundedSubscribe ops → ((path : List ℕ) → AreSubscribeRead spaces ops (scopes path))
-        → list_of subscribe_op_check scopes (parts_in (as_children (map (subscribe_element spaces) ops))) (good ops)
+        → list_of subscribe_op_check scopes (parts_in (as_children (map (subscribe_element spaces) ops))) (ok_value ops)
     subscribes_back scopes ops f within w =
-        subst (λ (parts : List Part). list_of subscribe_op_check scopes parts (good ops))
+        subst (λ (parts : List Part). list_of subscribe_op_check scopes parts (ok_value ops))
         (sym (parts_are (map (subscribe_element spaces) ops)))
         (each_back (λ index e. subscribe_op_check (scopes_below scopes index) e) (subscribe_element spaces) ops 0
         (λ index. each index ops f within (w (index ∷ []))))
       where
         each : (index : ℕ) (ops : List SubscribeOp) → AllByRecursion IsFitSubscribeOp ops → AllByRecursion IsBoundedSubscribe ops
             → AreSubscribeRead spaces ops (scopes (index ∷ []))
-            → AllByRecursion (λ op. subscribe_op_check (scopes_below scopes index) (subscribe_element spaces op) (good op)) ops
+            → AllByRecursion (λ op. subscribe_op_check (scopes_below scopes index) (subscribe_element spaces op) (ok_value op)) ops
         each index [] f within w = tt
         each index (op ∷ ops) f within w =
             (subscribe_back (scopes_below scopes index) op f.0 within.0 w.0, each index ops f.1 within.1 w.1)
@@ -365,7 +364,7 @@ module _ (canon : (i : Identifier) → IsIdentifier i → IsCanon (identifier_el
 
     -- the element of a request means it, in scopes in which its filters are read back
     pub request_back : (scopes : Scopes) (r : Request) → IsFitRequest r → IsBounded r → IsReadRequest spaces r scopes
-        → request_check scopes (element_in spaces r) (good r)
+        → request_check scopes (element_in spaces r) (ok_value r)
     request_back scopes (NewSession limit) f within w =
         let e : Element = element_in spaces (NewSession limit) in
         found_form new_session_form new_session_of scopes e (both limit tt)
