@@ -72,11 +72,11 @@ module _ (text : List ℕ) (scope : Scope) (u : IsUtf8 text) where
     end : length rest ≡ 0 → without_white r.cs ≡ []
     end none = sym r.rest_is ∙ no_characters rest none
 
-    pub ended : length rest ≡ 0 → (at : ℕ) → at ≡ length text → (result : Result Filter FilterError) → IsEndAnswer w at result
+    pub ends_parse : length rest ≡ 0 → (at : ℕ) → at ≡ length text → (result : Result Filter FilterError) → IsEndAnswer w at result
         → IsParsed text scope result
-    ended none at is (Ok filter) whole_is = whole_text text scope w r.cs r.reached (end none) filter whole_is
-    ended none at is (Err NoMemory) answer = tt
-    ended none at is (Err (NotAFilter found)) (same, no_filter) =
+    ends_parse none at is (Ok filter) whole_is = whole_text text scope w r.cs r.reached (end none) filter whole_is
+    ends_parse none at is (Err NoMemory) answer = tt
+    ends_parse none at is (Err (NotAFilter found)) (same, no_filter) =
         let there : at ≡ token_offset text r.cs = (let p = place in omega (arith, p, none, is)) in
         subst (StopsAt text scope) (sym (same ∙ there)) (stops_at_end text scope w r.cs r.reached (end none) no_filter)
 

@@ -92,10 +92,10 @@ module _ {X : Type 0} where
   past true code found check (Some x) is f = let wrong : one_found (Some x) ≡ one_found None = is in cc
   past false code found check o is f = let wrong : one_found o ≡ one_refused code = is in cc
 
-  stopped : (b : Bool) (code : Code) (check : Check (List X)) (c : Code)
+  refusal_passes : (b : Bool) (code : Code) (check : Check (List X)) (c : Code)
       → need b code (pass {X = Option X} None) (one_refused c) → need b code check (err_list c)
-  stopped true code check c is = let wrong : one_refused c ≡ one_found None = is in cc
-  stopped false code check c is = let same : one_refused c ≡ one_refused code = is in let e : c ≡ code = cc in ap err_list e
+  refusal_passes true code check c is = let wrong : one_refused c ≡ one_found None = is in cc
+  refusal_passes false code check c is = let same : one_refused c ≡ one_refused code = is in let e : c ≡ code = cc in ap err_list e
 
 module _ {X : Type 0} (one : ℕ → Element → Check X) (index : ℕ) (parts : List Part) where
   rest_of : Check (List X)
@@ -122,7 +122,7 @@ module _ {X : Type 0} (one : ℕ → Element → Check X) (index : ℕ) (parts :
     | inr f ↦ let wrong : one_refused code ≡ one_found (Some f.0) = f.2 in cc
   ]
   part_stops (Child-F.Text text) (Named code) is =
-      stopped (list_all is_white text) Failure (each_element one (index + 1) parts) code is
+      refusal_passes (list_all is_white text) Failure (each_element one (index + 1) parts) code is
 
 -- ---- one identifier
 
@@ -164,12 +164,12 @@ module _ (most : ℕ) (before : List Identifier) (parts : List Part) where
   later i (Ok others) f = (others, f, refl)
   later i (Err code) f = inl f
 
-  joined : (e : Element) (i : Identifier) → identifier_check e (identifier_found i) → may_follow most before i ≡ true
+  joins_others : (e : Element) (i : Identifier) → identifier_check e (identifier_found i) → may_follow most before i ≡ true
       → (found : Result (List Identifier) Code) → others_after i (after_made (i ∷ []) found)
       → identifiers_check most before (Child-F.Element e ∷ parts) (after_made (i ∷ []) found)
-  joined e i is may (Ok others) f =
+  joins_others e i is may (Ok others) f =
       (i, is, passes_on (may_follow most before i) Failure (others_after i) (after_made (i ∷ []) (ok_list others)) may f)
-  joined e i is may (Err code) f = inr (i, is, passes_on (may_follow most before i) Failure (others_after i) (err_list code) may f)
+  joins_others e i is may (Err code) f = inr (i, is, passes_on (may_follow most before i) Failure (others_after i) (err_list code) may f)
 
   -- where an identifier is found there, what is found of the others comes after it
   pub place_goes_on : (part : Part) (o : Option Identifier) → part_check (following_check most before) part (one_found o)
@@ -181,15 +181,15 @@ module _ (most : ℕ) (before : List Identifier) (parts : List Part) where
       let was : i ≡ is.0 = cc in
       let passed = let_pass (may_follow most before is.1.0) Failure is.1.0 is.0 is.1.2 in
       let first : is.1.0 ≡ i = sym passed.1 ∙ sym was in
-      joined e i (subst (λ j. identifier_check e (identifier_found j)) first is.1.1)
+      joins_others e i (subst (λ j. identifier_check e (identifier_found j)) first is.1.1)
       (subst (λ j. may_follow most before j ≡ true) first passed.0) found (later i found f)
   place_goes_on (Child-F.Text text) o is found f =
-      past (list_all is_white text) Failure found (identifiers_check most before parts) o is (kept o is f)
+      past (list_all is_white text) Failure found (identifiers_check most before parts) o is (by_part o is f)
     where
-      kept : (o : Option Identifier) → need (list_all is_white text) Failure (pass {X = Option Identifier} None) (one_found o)
+      by_part : (o : Option Identifier) → need (list_all is_white text) Failure (pass {X = Option Identifier} None) (one_found o)
           → identifiers_check most (before ++ option_list o) parts found → identifiers_check most before parts found
-      kept None is f = subst (λ b. identifiers_check most b parts found) (append-nil before) f
-      kept (Some i) is f = absurd (none (list_all is_white text) i is)
+      by_part None is f = subst (λ b. identifiers_check most b parts found) (append-nil before) f
+      by_part (Some i) is f = absurd (none (list_all is_white text) i is)
         where
           none : (b : Bool) (i : Identifier) → need b Failure (pass {X = Option Identifier} None) (one_found (Some i)) → ⊥
           none true i is = let wrong : one_found (Some i) ≡ one_found None = is in cc
@@ -213,24 +213,24 @@ module _ (most : ℕ) (before : List Identifier) (parts : List Part) where
     | inr f ↦ let wrong : one_refused {X = Identifier} code ≡ one_found (Some f.0) = f.2 in cc
   ]
   place_stops (Child-F.Text text) (Named code) is =
-      stopped (list_all is_white text) Failure (identifiers_check most before parts) code is
+      refusal_passes (list_all is_white text) Failure (identifiers_check most before parts) code is
 
 -- ---- one child, as the code has it
 
 module _ {X : Type 0} (one : Element → Check X) (child : Child) where
   module _ (e : Element) (is : child ≡ the.Element e) where
-    opened : out-Child child ≡ Child-F.Element e
-    opened = ap out-Child is ∙ out_element e
+    child_is : out-Child child ≡ Child-F.Element e
+    child_is = ap out-Child is ∙ out_element e
 
     pub part_found : (x : X) → one e (Ok x) → part_check one (out-Child child) (one_found (Some x))
-    part_found x f = subst (λ (part : Part). part_check one part (one_found (Some x))) (sym opened) (x, f, refl)
+    part_found x f = subst (λ (part : Part). part_check one part (one_found (Some x))) (sym child_is) (x, f, refl)
 
     at_element : (error : FormError) → IsCheckRefusal (one e) error → IsCheckRefusal (part_check one (Child-F.Element e)) error
     at_element (Named code) f = inl f
     at_element NoMemory f = tt
 
     pub part_refused : (error : FormError) → IsCheckRefusal (one e) error → IsCheckRefusal (part_check one (out-Child child)) error
-    part_refused error f = subst (λ (part : Part). IsCheckRefusal (part_check one part) error) (sym opened) (at_element error f)
+    part_refused error f = subst (λ (part : Part). IsCheckRefusal (part_check one part) error) (sym child_is) (at_element error f)
 
   module _ (text : List ℕ) (is : child ≡ the.Text text) where
     text_opened : out-Child child ≡ Child-F.Text text

@@ -19,7 +19,7 @@ use Rattle.ifmap_ident.specs.Kinds.{identity_type_name}
 use Rattle.ifmap_ident.specs.Written.{IsTyped, closed_text, domain_written, identifier_written, optional_written}
 use Rattle.ifmap_ident.proofs.OptionalLaws.{optional_alike}
 use Rattle.ifmap_ident.proofs.PlacedLaws.{text_alike}
-use Rattle.ifmap_ident.proofs.PrintedLaws.{printed}
+use Rattle.ifmap_ident.proofs.PrintedLaws.{prints_as}
 use Rattle.ifmap_ident.proofs.KindLaws.{types_are_one}
 
 -- ---- types of identities
@@ -170,4 +170,4 @@ alike (MacAddress n d) (MacAddress m e) f g h = mac_addresses_alike n d m e f g 
 
 -- the canonical bytes of identifiers tell them apart
 pub identifiers_alike : (a b : Identifier) → IsTyped a → IsTyped b → identifier_bytes a ≡ identifier_bytes b → a ≡ b
-identifiers_alike a b f g h = alike a b f g (sym (printed a) ∙ h ∙ printed b)
+identifiers_alike a b f g h = alike a b f g (sym (prints_as a) ∙ h ∙ prints_as b)

@@ -25,7 +25,7 @@ use Rattle.ifmap_ident.specs.Leading.{FrontsCompare}
 use Rattle.ifmap_ident.specs.Written.{OptionalsLead, closed_text, domain_written, identifier_written, kind_rank, placed_bytes}
 use Rattle.ifmap_ident.proofs.LeadingLaws.{leads_after, leads_both, leads_whole}
 use Rattle.ifmap_ident.proofs.OptionalLaws.{leads_before, optional_then}
-use Rattle.ifmap_ident.proofs.PrintedLaws.{printed}
+use Rattle.ifmap_ident.proofs.PrintedLaws.{prints_as}
 use Rattle.ifmap_lemmas.specs.Orderings.{then_then}
 use Rattle.ifmap_lemmas.specs.Runs.{all_below}
 
@@ -59,7 +59,7 @@ plain_leads p q f g =
 -- from how two identifiers are written
 by_written : (o : Ordering) (a b : Identifier) → FrontsCompare o (identifier_written a) (identifier_written b) → o ≡ identifier_order a b
 by_written o a b f =
-    sym (leads_whole f) ∙ (λ i. slice_cmp nat_cmp (sym (printed a) i) (sym (printed b) i))
+    sym (leads_whole f) ∙ (λ i. slice_cmp nat_cmp (sym (prints_as a) i) (sym (prints_as b) i))
 
 -- the domain, and then an attribute whose name begins with this letter
 domain_then : (o r : Ordering) (letter : ℕ) (d e s t : List ℕ) → 97 < letter → OptionalsLead o d e → FrontsCompare r s t
@@ -145,7 +145,7 @@ mac_addresses o v d w e f g h =
 written_by_kind : (a b : Identifier) (r : Ordering) → (identifier_kind a ≡ identifier_kind b → r ≡ identifier_order a b)
     → ordering_then (nat_cmp (kind_rank (identifier_kind a)) (kind_rank (identifier_kind b))) r
     ≡ slice_cmp nat_cmp (identifier_written a) (identifier_written b)
-written_by_kind (AccessRequest n d) (AccessRequest m e) r f = f refl ∙ (λ i. slice_cmp nat_cmp (printed (AccessRequest n d) i) (printed
+written_by_kind (AccessRequest n d) (AccessRequest m e) r f = f refl ∙ (λ i. slice_cmp nat_cmp (prints_as (AccessRequest n d) i) (prints_as
     (AccessRequest m e) i))
 written_by_kind (AccessRequest n d) (Device m) r f = refl
 written_by_kind (AccessRequest n d) (Identity m l v e) r f = refl
@@ -153,14 +153,14 @@ written_by_kind (AccessRequest n d) (IpV4 m e) r f = refl
 written_by_kind (AccessRequest n d) (IpV6 m e) r f = refl
 written_by_kind (AccessRequest n d) (MacAddress m e) r f = refl
 written_by_kind (Device n) (AccessRequest m e) r f = refl
-written_by_kind (Device n) (Device m) r f = f refl ∙ (λ i. slice_cmp nat_cmp (printed (Device n) i) (printed (Device m) i))
+written_by_kind (Device n) (Device m) r f = f refl ∙ (λ i. slice_cmp nat_cmp (prints_as (Device n) i) (prints_as (Device m) i))
 written_by_kind (Device n) (Identity m l v e) r f = refl
 written_by_kind (Device n) (IpV4 m e) r f = refl
 written_by_kind (Device n) (IpV6 m e) r f = refl
 written_by_kind (Device n) (MacAddress m e) r f = refl
 written_by_kind (Identity n k u d) (AccessRequest m e) r f = refl
 written_by_kind (Identity n k u d) (Device m) r f = refl
-written_by_kind (Identity n k u d) (Identity m l v e) r f = f refl ∙ (λ i. slice_cmp nat_cmp (printed (Identity n k u d) i) (printed
+written_by_kind (Identity n k u d) (Identity m l v e) r f = f refl ∙ (λ i. slice_cmp nat_cmp (prints_as (Identity n k u d) i) (prints_as
     (Identity m l v e) i))
 written_by_kind (Identity n k u d) (IpV4 m e) r f = refl
 written_by_kind (Identity n k u d) (IpV6 m e) r f = refl
@@ -168,23 +168,23 @@ written_by_kind (Identity n k u d) (MacAddress m e) r f = refl
 written_by_kind (IpV4 n d) (AccessRequest m e) r f = refl
 written_by_kind (IpV4 n d) (Device m) r f = refl
 written_by_kind (IpV4 n d) (Identity m l v e) r f = refl
-written_by_kind (IpV4 n d) (IpV4 m e) r f = f refl ∙ (λ i. slice_cmp nat_cmp (printed (IpV4 n d) i) (printed (IpV4 m e) i))
-written_by_kind (IpV4 n d) (IpV6 m e) r f = f refl ∙ (λ i. slice_cmp nat_cmp (printed (IpV4 n d) i) (printed (IpV6 m e) i))
+written_by_kind (IpV4 n d) (IpV4 m e) r f = f refl ∙ (λ i. slice_cmp nat_cmp (prints_as (IpV4 n d) i) (prints_as (IpV4 m e) i))
+written_by_kind (IpV4 n d) (IpV6 m e) r f = f refl ∙ (λ i. slice_cmp nat_cmp (prints_as (IpV4 n d) i) (prints_as (IpV6 m e) i))
 written_by_kind (IpV4 n d) (MacAddress m e) r f = refl
 written_by_kind (IpV6 n d) (AccessRequest m e) r f = refl
 written_by_kind (IpV6 n d) (Device m) r f = refl
 written_by_kind (IpV6 n d) (Identity m l v e) r f = refl
-written_by_kind (IpV6 n d) (IpV4 m e) r f = f refl ∙ (λ i. slice_cmp nat_cmp (printed (IpV6 n d) i) (printed (IpV4 m e) i))
-written_by_kind (IpV6 n d) (IpV6 m e) r f = f refl ∙ (λ i. slice_cmp nat_cmp (printed (IpV6 n d) i) (printed (IpV6 m e) i))
+written_by_kind (IpV6 n d) (IpV4 m e) r f = f refl ∙ (λ i. slice_cmp nat_cmp (prints_as (IpV6 n d) i) (prints_as (IpV4 m e) i))
+written_by_kind (IpV6 n d) (IpV6 m e) r f = f refl ∙ (λ i. slice_cmp nat_cmp (prints_as (IpV6 n d) i) (prints_as (IpV6 m e) i))
 written_by_kind (IpV6 n d) (MacAddress m e) r f = refl
 written_by_kind (MacAddress n d) (AccessRequest m e) r f = refl
 written_by_kind (MacAddress n d) (Device m) r f = refl
 written_by_kind (MacAddress n d) (Identity m l v e) r f = refl
 written_by_kind (MacAddress n d) (IpV4 m e) r f = refl
 written_by_kind (MacAddress n d) (IpV6 m e) r f = refl
-written_by_kind (MacAddress n d) (MacAddress m e) r f = f refl ∙ (λ i. slice_cmp nat_cmp (printed (MacAddress n d) i) (printed
+written_by_kind (MacAddress n d) (MacAddress m e) r f = f refl ∙ (λ i. slice_cmp nat_cmp (prints_as (MacAddress n d) i) (prints_as
     (MacAddress m e) i))
 
 pub by_kind : (a b : Identifier) (r : Ordering) → (identifier_kind a ≡ identifier_kind b → r ≡ identifier_order a b)
     → ordering_then (nat_cmp (kind_rank (identifier_kind a)) (kind_rank (identifier_kind b))) r ≡ identifier_order a b
-by_kind a b r f = written_by_kind a b r f ∙ (λ i. slice_cmp nat_cmp (sym (printed a) i) (sym (printed b) i))
+by_kind a b r f = written_by_kind a b r f ∙ (λ i. slice_cmp nat_cmp (sym (prints_as a) i) (sym (prints_as b) i))

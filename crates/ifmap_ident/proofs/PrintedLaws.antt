@@ -184,11 +184,11 @@ device_printed name =
     ∙ device_end (text_bytes name)
 
 -- an identifier, part by part
-pub printed : (i : Identifier) → identifier_bytes i ≡ identifier_written i
+pub prints_as : (i : Identifier) → identifier_bytes i ≡ identifier_written i
 unfolding identifier_bytes
-printed (AccessRequest name domain) = access_request_printed name domain
-printed (Device name) = device_printed name
-printed (Identity name kind other domain) = identity_printed name kind other domain
-printed (IpV4 value domain) = typed_address_printed (codes "IPv4") (ip_v4_text value) domain
-printed (IpV6 value domain) = typed_address_printed (codes "IPv6") (ip_v6_text value) domain
-printed (MacAddress value domain) = mac_address_printed value domain
+prints_as (AccessRequest name domain) = access_request_printed name domain
+prints_as (Device name) = device_printed name
+prints_as (Identity name kind other domain) = identity_printed name kind other domain
+prints_as (IpV4 value domain) = typed_address_printed (codes "IPv4") (ip_v4_text value) domain
+prints_as (IpV6 value domain) = typed_address_printed (codes "IPv6") (ip_v6_text value) domain
+prints_as (MacAddress value domain) = mac_address_printed value domain

@@ -13,20 +13,20 @@ use Rattle.ifmap_ident.specs.Identifiers.{identifier_bytes}
 use Rattle.ifmap_ident.specs.Kinds.{identity_type_name}
 use Rattle.ifmap_ident.specs.Written.{attribute_written, closed_text, domain_written, optional_written, placed_bytes}
 use Rattle.ifmap_ident.proofs.OrderLaws.{plain_text}
-use Rattle.ifmap_ident.proofs.PrintedLaws.{printed}
+use Rattle.ifmap_ident.proofs.PrintedLaws.{prints_as}
 
 pub access_request_size : (n d : List ℕ) → length (identifier_bytes (AccessRequest n d))
     ≡ length (domain_written d) + length (attribute_written (codes "name") n) + 17
 access_request_size n d =
     let inner = length-append (attribute_written (codes "name") n) (codes "/>") in
     let outer = length-append (domain_written d) (attribute_written (codes "name") n ++ codes "/>") in
-    ap length (printed (AccessRequest n d)) ∙ omega arith
+    ap length (prints_as (AccessRequest n d)) ∙ omega arith
 
 pub device_size : (n : List ℕ) → length (identifier_bytes (Device n)) ≡ length (placed_bytes Content n) + 30
 device_size n =
     let inner = length-append (placed_bytes Content n) (60 ∷ []) in
     let outer = length-append (closed_text Content n) (codes "/name></device>") in
-    ap length (printed (Device n)) ∙ omega arith
+    ap length (prints_as (Device n)) ∙ omega arith
 
 -- a type is written as it is
 type_size : (k : IdentityType) → length (placed_bytes Value (identity_type_name k)) ≡ length (identity_type_name k)
@@ -54,7 +54,7 @@ identity_size n k u d =
     let b = length-append other (type ++ codes "/>") in
     let e = length-append name (other ++ (type ++ codes "/>")) in
     let f = length-append (domain_written d) (name ++ (other ++ (type ++ codes "/>"))) in
-    ap length (printed (Identity n k u d)) ∙ omega arith
+    ap length (prints_as (Identity n k u d)) ∙ omega arith
 
 -- an address of some type
 address_length : (front d text : List ℕ) → length (domain_written d ++ (front ++ (attribute_written (codes "value") text ++ codes "/>")))
@@ -78,18 +78,18 @@ pub v4_size : (v d : List ℕ) → AllByRecursion IsAddressByte (ip_v4_text v)
 v4_size v d h =
     let plain = plain_length (ip_v4_text v) h in
     let whole = address_length (attribute_written (codes "type") (codes "IPv4")) d (ip_v4_text v) in
-    ap length (printed (IpV4 v d)) ∙ omega arith
+    ap length (prints_as (IpV4 v d)) ∙ omega arith
 
 pub v6_size : (v d : List ℕ) → AllByRecursion IsAddressByte (ip_v6_text v)
     → length (identifier_bytes (IpV6 v d)) ≡ length (domain_written d) + length (ip_v6_text v) + 34
 v6_size v d h =
     let plain = plain_length (ip_v6_text v) h in
     let whole = address_length (attribute_written (codes "type") (codes "IPv6")) d (ip_v6_text v) in
-    ap length (printed (IpV6 v d)) ∙ omega arith
+    ap length (prints_as (IpV6 v d)) ∙ omega arith
 
 pub mac_size : (v d : List ℕ) → AllByRecursion IsAddressByte (mac_address_text v)
     → length (identifier_bytes (MacAddress v d)) ≡ length (domain_written d) + length (mac_address_text v) + 23
 mac_size v d h =
     let plain = plain_length (mac_address_text v) h in
     let whole = address_length [] d (mac_address_text v) in
-    ap length (printed (MacAddress v d)) ∙ omega arith
+    ap length (prints_as (MacAddress v d)) ∙ omega arith

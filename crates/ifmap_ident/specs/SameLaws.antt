@@ -54,14 +54,14 @@ greater_item_differs i y e = sym (ties i y) ∙ ap is_eq e
 
 -- an identifier above another is not the same
 pub greater_identifier_differs : (a b : Identifier) → identifier_order a b ≡ Less → same_identifier b a ≡ false
-greater_identifier_differs a b less = told (same_identifier b a) refl
+greater_identifier_differs a b less = by_test (same_identifier b a) refl
   where
-    told : (t : Bool) → same_identifier b a ≡ t → t ≡ false
-    told true is =
+    by_test : (t : Bool) → same_identifier b a ≡ t → t ≡ false
+    by_test true is =
         let same : identifier_bytes b ≡ identifier_bytes a = eq_tells (identifier_bytes b) (identifier_bytes a) is in
         let wrong : true ≡ false = slice_cmp-less (identifier_bytes a) (identifier_bytes b) (sym less) (sym same) in
         wrong
-    told false is = refl
+    by_test false is = refl
 
 -- identifiers of one list of canonical bytes are one
 abbrev pub BytesTellIdentifiers : Type 0

@@ -7,15 +7,15 @@ abbrev pub Stops : {X : Type 0} → (X → Bool) → List X → Type 0
 Stops p [] = Unit {0}
 Stops p (b ∷ bs) = p b ≡ false
 
-pub cut : {X : Type 0} (p : X → Bool) (a b r s : List X) → AllByRecursion (λ n. p n ≡ true) a → AllByRecursion (λ n. p n ≡ true) b
+pub one_cut : {X : Type 0} (p : X → Bool) (a b r s : List X) → AllByRecursion (λ n. p n ≡ true) a → AllByRecursion (λ n. p n ≡ true) b
     → Stops p r → Stops p s → a ++ r ≡ b ++ s → (a ≡ b) × (r ≡ s)
-cut p [] [] r s f g stop also e = (refl, e)
-cut p [] (y ∷ ys) r s f g stop also e = let h : p y ≡ false = subst (Stops p) e stop in let q : true ≡ false = sym g.0 ∙ h in cc
-cut p (x ∷ xs) [] r s f g stop also e = let h : p x ≡ false = subst (Stops p) (sym e) also in let q : true ≡ false = sym f.0 ∙ h in cc
-cut p (x ∷ xs) (y ∷ ys) r s f g stop also e =
+one_cut p [] [] r s f g stop also e = (refl, e)
+one_cut p [] (y ∷ ys) r s f g stop also e = let h : p y ≡ false = subst (Stops p) e stop in let q : true ≡ false = sym g.0 ∙ h in cc
+one_cut p (x ∷ xs) [] r s f g stop also e = let h : p x ≡ false = subst (Stops p) (sym e) also in let q : true ≡ false = sym f.0 ∙ h in cc
+one_cut p (x ∷ xs) (y ∷ ys) r s f g stop also e =
     let head : x ≡ y = cc in
     let tail : xs ++ r ≡ ys ++ s = cc in
-    let both = cut p xs ys r s f.1 g.1 stop also tail in
+    let both = one_cut p xs ys r s f.1 g.1 stop also tail in
     let same : xs ≡ ys = both.0 in
     (cc, both.1)
 

@@ -4,11 +4,11 @@ use Rattle.std.specs.Char.{is_ascii_digit, to_ascii_uppercase, to_ascii_lowercas
 use Rattle.std.specs.Str.{byte}
 use Rattle.std.proofs.lemmas.Bool.Decides.{nat_tests}
 
-raised : (a : ℕ) → to_ascii_uppercase (to_ascii_lowercase a) ≡ to_ascii_uppercase a
-raised a = grind (arith, nat_tests)
+upper_of_lower : (a : ℕ) → to_ascii_uppercase (to_ascii_lowercase a) ≡ to_ascii_uppercase a
+upper_of_lower a = grind (arith, nat_tests)
 
-lowered : (a : ℕ) → to_ascii_lowercase (to_ascii_uppercase a) ≡ to_ascii_lowercase a
-lowered a = grind (arith, nat_tests)
+lower_of_upper : (a : ℕ) → to_ascii_lowercase (to_ascii_uppercase a) ≡ to_ascii_lowercase a
+lower_of_upper a = grind (arith, nat_tests)
 
 lower_twice : (a : ℕ) → to_ascii_lowercase (to_ascii_lowercase a) ≡ to_ascii_lowercase a
 lower_twice a = grind (arith, nat_tests)
@@ -16,11 +16,11 @@ lower_twice a = grind (arith, nat_tests)
 -- of two changes of case, the later counts
 pub all_raised : (xs : List ℕ) → map to_ascii_uppercase (map to_ascii_lowercase xs) ≡ map to_ascii_uppercase xs
 all_raised [] = refl
-all_raised (x ∷ xs) = λ i. raised x i ∷ all_raised xs i
+all_raised (x ∷ xs) = λ i. upper_of_lower x i ∷ all_raised xs i
 
 pub all_lowered : (xs : List ℕ) → map to_ascii_lowercase (map to_ascii_uppercase xs) ≡ map to_ascii_lowercase xs
 all_lowered [] = refl
-all_lowered (x ∷ xs) = λ i. lowered x i ∷ all_lowered xs i
+all_lowered (x ∷ xs) = λ i. lower_of_upper x i ∷ all_lowered xs i
 
 pub lower_again : (xs : List ℕ) → map to_ascii_lowercase (map to_ascii_lowercase xs) ≡ map to_ascii_lowercase xs
 lower_again [] = refl

@@ -15,7 +15,7 @@ use Rattle.ifmap_elem.specs.Values.{IsValue}
 use Rattle.ifmap_elem.specs.declared.tokens.Assignment.{Assignment}
 use Rattle.ifmap_elem.specs.declared.tokens.Qualified.{Qualified}
 use Rattle.ifmap_elem.specs.declared.tokens.Tag.{Tag}
-use Rattle.ifmap_lemmas.specs.Cuts.{Stops, cut}
+use Rattle.ifmap_lemmas.specs.Cuts.{Stops, one_cut}
 use Rattle.ifmap_lemmas.specs.Numbers.{equal_numbers}
 use Rattle.ifmap_elem.specs.laws.NameBytes.{name_cut, white_stops_at_name, is_name_byte}
 use Rattle.ifmap_elem.specs.laws.OneToken.{EndsTag, one_assignment, one_quoted, quoted_stops, assigned_stops}
@@ -31,7 +31,7 @@ value_meant written text e s = (s.0, subst (λ (x : List ℕ). IsValue x s.0) (s
 
 module _ (bytes white inner : List ℕ) (c : Cuts is_white bytes white inner) where
   parted : (a : Assignment) (r : List ℕ) (t : TakesAssignment bytes a r) → (white ≡ t.white) × (inner ≡ name_bytes a.name ++ t.after)
-  parted a r t = cut is_white white t.white inner (name_bytes a.name ++ t.after) c.passes t.is_white c.stops
+  parted a r t = one_cut is_white white t.white inner (name_bytes a.name ++ t.after) c.passes t.is_white c.stops
       (white_stops_at_name a.name t.after t.is_name) (sym c.bytes_are ∙ t.bytes_are)
 
   pub no_white : white ≡ [] → SomeAssignment bytes → ⊥
@@ -156,7 +156,7 @@ module _ (rest : List ℕ) (open_still : IsAtEnd rest → ⊥) where
 pub goes_on_end : (bytes : List ℕ) (made : List Assignment) (rest white end : List ℕ) → AreReadSoFar bytes made rest → IsAtEnd rest
     → Cuts is_white rest white end → TakesAssignments bytes made end
 goes_on_end bytes made rest white end g at c =
-    let both = cut is_white white at.0 end at.1 c.passes at.3 c.stops (closes_stops at.1 at.4) (sym c.bytes_are ∙ at.2) in
+    let both = one_cut is_white white at.0 end at.1 c.passes at.3 c.stops (closes_stops at.1 at.4) (sym c.bytes_are ∙ at.2) in
     record {
       white = white;
       assigned = subst (To TakesAssignment bytes made) c.bytes_are g.so_far;
@@ -169,7 +169,7 @@ pub tells_end : (bytes white end : List ℕ) (b : Bool) → Cuts is_white bytes 
 tells_end bytes white end b c t = (
   (λ h. (white, end, c.bytes_are, c.passes, t.0 h)),
   (λ at. t.1 (subst ClosesTag
-      (sym (cut is_white white at.0 end at.1 c.passes at.3 c.stops (closes_stops at.1 at.4) (sym c.bytes_are ∙ at.2)).1) at.4)),
+      (sym (one_cut is_white white at.0 end at.1 c.passes at.3 c.stops (closes_stops at.1 at.4) (sym c.bytes_are ∙ at.2)).1) at.4)),
 )
 
 -- tags

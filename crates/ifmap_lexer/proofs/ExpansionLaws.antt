@@ -6,7 +6,7 @@ use Rattle.std.proofs.lemmas.List.{append-nil}
 use Rattle.ifmap_lemmas.specs.Items.{To}
 use Rattle.ifmap_elem.specs.Chars.{AllAre, ampersand, semicolon}
 use Rattle.ifmap_elem.specs.Values.{ValuePart, Plain, Reference, TakesPart, EndsRun, SpellsOut, reference_value}
-use Rattle.ifmap_lemmas.specs.Cuts.{cut}
+use Rattle.ifmap_lemmas.specs.Cuts.{one_cut}
 use Rattle.ifmap_elem.specs.laws.OneToken.{one_part}
 use Rattle.ifmap_lexer.specs.Cutting.{CutsAt, is_but}
 use Rattle.ifmap_lexer.specs.Runs.{part_in}
@@ -82,7 +82,7 @@ module _ (place : TextPlace) where
       refers (Reference c) ps mid l m =
           let e : ampersand ∷ (name ++ (semicolon ∷ beyond)) ≡ ampersand ∷ (l.0 ++ (semicolon ∷ mid)) = l.1 in
           let tail : name ++ (semicolon ∷ beyond) ≡ l.0 ++ (semicolon ∷ mid) = cc in
-          let both = cut (is_but semicolon) name l.0 (semicolon ∷ beyond) (semicolon ∷ mid) f l.2 refl refl tail in
+          let both = one_cut (is_but semicolon) name l.0 (semicolon ∷ beyond) (semicolon ∷ mid) f l.2 refl refl tail in
           let after : semicolon ∷ beyond ≡ semicolon ∷ mid = both.1 in
           let same : mid ≡ beyond = cc in (
             c,

@@ -12,7 +12,7 @@ use Rattle.std.proofs.lemmas.Str.{encode_ascii, encode_same, encodes-chars, char
 use Rattle.ifmap_elem.specs.Chars.{AllAre, colon}
 use Rattle.ifmap_elem.specs.declared.tokens.Qualified.{Qualified}
 use Rattle.ifmap_elem.specs.Names.{IsNamePart, IsQualified, is_name_start, is_name_character, name_bytes, with_prefix}
-use Rattle.ifmap_lemmas.specs.Cuts.{Stops, cut}
+use Rattle.ifmap_lemmas.specs.Cuts.{Stops, one_cut}
 use Rattle.ifmap_lemmas.specs.Members.{all_weaker}
 use Rattle.ifmap_lemmas.specs.Numbers.{is_other}
 use Rattle.ifmap_elem.specs.laws.NameBytes.{is_part_byte, name_are_bytes, name_part_bytes, part_is_some, is_name_byte}
@@ -131,7 +131,7 @@ prefixed_parts bytes front after c q i e =
           subst (AllAre is_part_byte) (sym (local_bytes q none) ∙ e ∙ c.bytes_are) (name_part_bytes q.local i.local_is) in
           let wrong : false ≡ true = (all_back is_part_byte front (colon ∷ after) all).0 in cc
       | inr part ↦
-          let both = cut (is_but colon) q.prefix front (colon ∷ q.local) (colon ∷ after)
+          let both = one_cut (is_but colon) q.prefix front (colon ∷ q.local) (colon ∷ after)
           (all_weaker is_part_byte (is_but colon) no_colon q.prefix (name_part_bytes q.prefix part)) c.passes refl refl
           (sym (prefixed_some q.prefix q.local (part_is_some q.prefix part)) ∙ e ∙ c.bytes_are) in
           let tail : colon ∷ q.local ≡ colon ∷ after = both.1 in
@@ -160,5 +160,5 @@ pub name_run : (bytes run rest : List ℕ) → Cuts is_name_byte bytes run rest
     → ((name : Qualified) × (later : List ℕ) × IsQualified name × (bytes ≡ name_bytes name ++ later) × Stops is_name_byte later)
     → (name : Qualified) × IsQualified name × (name_bytes name ≡ run)
 name_run bytes run rest c s =
-    let both = cut is_name_byte run (name_bytes s.0) rest s.1 c.passes (name_are_bytes s.0 s.2) c.stops s.4 (sym c.bytes_are ∙ s.3) in
+    let both = one_cut is_name_byte run (name_bytes s.0) rest s.1 c.passes (name_are_bytes s.0 s.2) c.stops s.4 (sym c.bytes_are ∙ s.3) in
     (s.0, s.2, sym both.0)

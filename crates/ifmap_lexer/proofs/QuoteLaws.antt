@@ -4,7 +4,7 @@ use Rattle.std.specs.Prelude.{◌==◌, ◌||◌, Option, Some, None}
 use Rattle.std.proofs.lemmas.Bool.Decides.{nat_tests}
 use Rattle.ifmap_elem.specs.Chars.{AllAre, is_white, double_quote, equals_sign, single_quote}
 use Rattle.ifmap_elem.specs.Tokens.{TakesQuoted}
-use Rattle.ifmap_lemmas.specs.Cuts.{cut}
+use Rattle.ifmap_lemmas.specs.Cuts.{one_cut}
 use Rattle.ifmap_elem.specs.laws.OneToken.{quote_is_not_white}
 use Rattle.ifmap_lexer.specs.Cutting.{Cuts, CutsAt, is_but}
 use Rattle.ifmap_lexer.proofs.Basics.{all_back}
@@ -32,7 +32,8 @@ no_quote_at b bs bytes e h q r g d =
 
 module _ (bytes before sign : List ℕ) (c : Cuts is_white bytes before sign) where
   sign_is : (w r : List ℕ) (t : TakesQuoted bytes w r) → sign ≡ equals_sign ∷ (t.after ++ (t.quote ∷ (w ++ (t.quote ∷ r))))
-  sign_is w r t = (cut is_white before t.before sign (equals_sign ∷ (t.after ++ (t.quote ∷ (w ++ (t.quote ∷ r))))) c.passes t.white_before
+  sign_is w r t =
+      (one_cut is_white before t.before sign (equals_sign ∷ (t.after ++ (t.quote ∷ (w ++ (t.quote ∷ r))))) c.passes t.white_before
       c.stops refl (sym c.bytes_are ∙ t.bytes_are)).1
 
   pub no_sign : ((rest : List ℕ) → sign ≡ equals_sign ∷ rest → ⊥) → (w r : List ℕ) → TakesQuoted bytes w r → ⊥
@@ -43,7 +44,7 @@ module _ (bytes before sign : List ℕ) (c : Cuts is_white bytes before sign) wh
     value_is w r t =
         let s : equals_sign ∷ after ≡ equals_sign ∷ (t.after ++ (t.quote ∷ (w ++ (t.quote ∷ r)))) = sym e ∙ sign_is w r t in
         let tail : after ≡ t.after ++ (t.quote ∷ (w ++ (t.quote ∷ r))) = cc in
-        (cut is_white later t.after value (t.quote ∷ (w ++ (t.quote ∷ r))) d.passes t.white_after d.stops
+        (one_cut is_white later t.after value (t.quote ∷ (w ++ (t.quote ∷ r))) d.passes t.white_after d.stops
         (quote_is_not_white t.quote t.is_quote) (sym d.bytes_are ∙ tail)).1
 
     pub no_quote : ((quote : ℕ) (rest : List ℕ) → (quote == double_quote || quote == single_quote) ≡ true → value ≡ quote ∷ rest → ⊥)

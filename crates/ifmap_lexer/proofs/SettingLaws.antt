@@ -8,7 +8,7 @@ use Rattle.std.specs.Char.{to_ascii_uppercase, to_ascii_lowercase}
 use Rattle.std.specs.Str.{byte}
 use Rattle.ifmap_elem.specs.Chars.{IsWhite, is_white}
 use Rattle.ifmap_elem.specs.Tokens.{TakesQuoted, TakesSetting, TakesOptional, TakesDeclaration}
-use Rattle.ifmap_lemmas.specs.Cuts.{Stops, cut}
+use Rattle.ifmap_lemmas.specs.Cuts.{Stops, one_cut}
 use Rattle.ifmap_elem.specs.laws.OneToken.{one_quoted}
 use Rattle.ifmap_lexer.specs.Cutting.{Cuts}
 use Rattle.ifmap_lexer.specs.Settings.{IsEncoding, IsXmlVersion, IsYesOrNo, SetsTo, StartsNotWhite, TakesWhereSet}
@@ -22,7 +22,7 @@ stops_at (b ∷ bs) after h = h
 module _ (name : List ℕ) (starts : StartsNotWhite name) where
   module _ (bytes white inner : List ℕ) (c : Cuts is_white bytes white inner) where
     parted : (w r : List ℕ) (t : SetsTo name bytes w r) → (white ≡ t.white) × (inner ≡ name ++ t.after)
-    parted w r t = cut is_white white t.white inner (name ++ t.after) c.passes t.is_white c.stops (stops_at name t.after starts)
+    parted w r t = one_cut is_white white t.white inner (name ++ t.after) c.passes t.is_white c.stops (stops_at name t.after starts)
         (sym c.bytes_are ∙ t.bytes_are)
 
     pub not_spaced : white ≡ [] → (w r : List ℕ) → SetsTo name bytes w r → ⊥
@@ -48,7 +48,7 @@ module _ (name : List ℕ) (starts : StartsNotWhite name) where
 
   one_setting : (bytes w v r s : List ℕ) → SetsTo name bytes w r → SetsTo name bytes v s → (w ≡ v) × (r ≡ s)
   one_setting bytes w v r s l m =
-      let both = cut is_white l.white m.white (name ++ l.after) (name ++ m.after) l.is_white m.is_white (stops_at name l.after starts)
+      let both = one_cut is_white l.white m.white (name ++ l.after) (name ++ m.after) l.is_white m.is_white (stops_at name l.after starts)
       (stops_at name m.after starts) (sym l.bytes_are ∙ m.bytes_are) in
       one_quoted l.after w v r s l.given (subst (λ (x : List ℕ). TakesQuoted x v s) (sym (same_front name l.after m.after both.1)) m.given)
 
@@ -91,7 +91,7 @@ from_encoding w e = sym (all_lowered w) ∙ ap (map to_ascii_lowercase) e
 -- the declaration
 
 heads : (s t x y : List ℕ) → IsWhite s → IsWhite t → Stops is_white x → Stops is_white y → s ++ x ≡ t ++ y → x ≡ y
-heads s t x y f g stop also e = (cut is_white s t x y f g stop also e).1
+heads s t x y f g stop also e = (one_cut is_white s t x y f g stop also e).1
 
 encoding_is_no_end : (bytes r white rest : List ℕ) → TakesSetting (codes "encoding") IsEncoding bytes r → IsWhite white → bytes ≡ white
     ++ (codes "?>" ++ rest) → ⊥

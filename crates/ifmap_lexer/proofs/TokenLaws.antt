@@ -21,7 +21,7 @@ use Rattle.ifmap_elem.specs.declared.tokens.Qualified.{Qualified}
 use Rattle.ifmap_elem.specs.declared.tokens.Tag.{Tag}
 use Rattle.ifmap_elem.specs.declared.tokens.Token.{Token}
 use Rattle.ifmap_elem.specs.declared.tokens.Token.TheVariants.{Declaration, Comment, Start, Empty, End, Section, Characters}
-use Rattle.ifmap_lemmas.specs.Cuts.{Stops, cut}
+use Rattle.ifmap_lemmas.specs.Cuts.{Stops, one_cut}
 use Rattle.ifmap_elem.specs.laws.Delimiters.{dash_cut, bracket_cut}
 use Rattle.ifmap_lemmas.specs.Numbers.{equal_numbers}
 use Rattle.ifmap_elem.specs.laws.NameBytes.{name_cut, name_stops_at_white}
@@ -205,7 +205,7 @@ module _ (bytes inner : List ℕ) (e : bytes ≡ codes "</" ++ inner) where
         let t = o.1 in
         let both = name_cut name o.0 after (t.white ++ (codes ">" ++ s.1)) n.0 t.is_name n.2
         (name_stops_at_white t.white (codes ">" ++ s.1) t.is_white refl) (sym n.1 ∙ end_inner o.0 s.1 t) in
-        none s.1 (cut is_white white t.white end (codes ">" ++ s.1) c.passes t.is_white c.stops refl (sym c.bytes_are ∙ both.1)).1
+        none s.1 (one_cut is_white white t.white end (codes ">" ++ s.1) c.passes t.is_white c.stops refl (sym c.bytes_are ∙ both.1)).1
 
     pub end_found : (rest : List ℕ) → end ≡ codes ">" ++ rest → TakesEnd bytes name rest
     end_found rest is = record {
@@ -248,7 +248,8 @@ ends_text (b ∷ bs) s = by_test (b == less_than) refl
 module _ (bytes own rest : List ℕ) (c : Cuts (is_but less_than) bytes own rest) where
   text_cut : (blank : Bool) (text later : List ℕ) (t : TakesText bytes blank text later) → own ≡ t.own
   text_cut blank text later t =
-      (cut (is_but less_than) own t.own rest later c.passes t.no_tag c.stops (text_stops later t.ends) (sym c.bytes_are ∙ t.bytes_are)).0
+      (one_cut (is_but less_than) own t.own rest later c.passes t.no_tag c.stops (text_stops later t.ends)
+      (sym c.bytes_are ∙ t.bytes_are)).0
 
   pub no_own : own ≡ [] → Stands kinds.Text bytes → ⊥
   no_own e s = let t = (text_by bytes s.0 s.1 s.2 s.3) in t.2.some (sym (text_cut t.0 t.1 s.1 t.2) ∙ e)

@@ -116,8 +116,8 @@ module _ {K : Type 0} {cmp : K → K → Ordering} (total : IsTotalOrder cmp) wh
       | inr h ↦ entry_other new old number other (key, 1) h.1.live differs
     ]
 
-    pub kept : (v : ℕ) (other : K) → Names cmp old v other → Names cmp new v other
-    kept v other names = elim (cases_eq v number) [
+    pub keeps_names : (v : ℕ) (other : K) → Names cmp old v other → Names cmp new v other
+    keeps_names v other names = elim (cases_eq v number) [
       | inl same ↦ elim change [
         | inl p ↦ let one : names.0 ≡ p.0 = same_Some _ _ (sym names.1 ∙ ap (entry_at old) same ∙ p.1) in
             ((p.0.0, p.0.1 + 1), ap (entry_at new) same ∙ p.3, ap (λ (e : K × ℕ). cmp e.0 other) (sym one) ∙ names.2)
@@ -147,7 +147,7 @@ module _ {K : Type 0} {cmp : K → K → Ordering} (total : IsTotalOrder cmp) wh
     held other n (inl h) = elim (tied_or_not key other) [
       | inl tie ↦
           let one = once_tied key other tie in
-          let same : h.0 ≡ number = more.whole.one_to_one h.0 number other (kept h.0 other h.1) (
+          let same : h.0 ≡ number = more.whole.one_to_one h.0 number other (keeps_names h.0 other h.1) (
             named.0,
             named.1,
             tied_on named.0.0 key other
@@ -155,10 +155,10 @@ module _ {K : Type 0} {cmp : K → K → Ordering} (total : IsTotalOrder cmp) wh
           ) in
           let now : holds_at new h.0 ≡ holds_at old h.0 + 1 = ap (holds_at new) same ∙ counted ∙ ap (λ x. holds_at old x + 1) (sym same)
           in
-          inl (h.0, kept h.0 other h.1, omega (arith, now, h.2, one))
+          inl (h.0, keeps_names h.0 other h.1, omega (arith, now, h.2, one))
       | inr differs ↦
           let none = once_apart key other differs in
-          let kept_now = kept h.0 other h.1 in
+          let kept_now = keeps_names h.0 other h.1 in
           let elsewhere : h.0 ≢ number = λ same.
           let entry : kept_now.0 ≡ named.0 = same_Some _ _ (sym kept_now.1 ∙ ap (entry_at new) same ∙ named.1) in
           differs (tied_through named.0.0 key other named.2 (ap (λ (e : K × ℕ). cmp e.0 other) (sym entry) ∙ kept_now.2)) in

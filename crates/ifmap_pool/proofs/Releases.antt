@@ -25,8 +25,8 @@ module _ {K : Type 0} {old new : Holdings K} {number : ℕ} (goes : LetsOneGo ol
     )
   ]
 
-  pub kept : LetsGo old new number
-  kept other is more = elim goes.2 [
+  pub lets_go : LetsGo old new number
+  lets_go other is more = elim goes.2 [
     | inl h ↦ h.1 other is more
     | inr h ↦ let same : other ≡ goes.0 = same_Some _ _ (sym is ∙ goes.1) in let one = ap (λ (e : K × ℕ). e.1) same in absurd (omega
         (arith, one, more, h.0))

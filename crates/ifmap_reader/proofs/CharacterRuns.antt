@@ -19,7 +19,7 @@ use Rattle.std.proofs.lemmas.Str.{encode_ascii, encode_same}
 use Rattle.ifmap_lemmas.specs.Items.{To}
 use Rattle.ifmap_elem.specs.Chars.{AllAre, IsCharacters, is_character, ampersand, carriage_return, double_quote, greater_than, less_than, line_feed, semicolon, single_quote, space_character, tab}
 use Rattle.ifmap_elem.specs.Values.{ValuePart, Plain, Reference, TakesPart, SpellsOut, IsText, IsValue, as_space, begins_with, line_ends, code_point, reference_value, text_part, value_part}
-use Rattle.ifmap_lemmas.specs.Cuts.{Stops, cut}
+use Rattle.ifmap_lemmas.specs.Cuts.{Stops, one_cut}
 use Rattle.ifmap_lemmas.specs.Members.{all_append}
 use Rattle.ifmap_lemmas.specs.Numbers.{equal_numbers, is_other}
 use Rattle.ifmap_elem.specs.laws.CharacterLaws.{characters_both, character_passes, one_character, no_characters}
@@ -144,7 +144,7 @@ module _ (p : ℕ → Bool) (high : (b : ℕ) → 128 ≤ b → p b ≡ true) wh
   cut_characters : (bytes a b : List ℕ) → IsCharacters bytes → bytes ≡ a ++ b → AllAre p a → Stops p b → IsCharacters a × IsCharacters b
   cut_characters bytes a b i e f stop =
       let r = parted i.0 i.2 in
-      let both = cut p r.front a r.rest b r.passes f r.stops stop (sym r.bytes_are ∙ i.1 ∙ e) in
+      let both = one_cut p r.front a r.rest b r.passes f r.stops stop (sym r.bytes_are ∙ i.1 ∙ e) in
       (subst IsCharacters both.0 r.before, subst IsCharacters both.1 r.after)
 
 -- references

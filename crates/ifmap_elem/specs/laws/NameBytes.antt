@@ -9,7 +9,7 @@ use Rattle.std.proofs.lemmas.Str.{inside_one, length-encode, len_utf8_bounds}
 use Rattle.ifmap_elem.specs.Chars.{AllAre, IsWhite, is_white, carriage_return, colon, line_feed, space_character, tab}
 use Rattle.ifmap_elem.specs.declared.tokens.Qualified.{Qualified}
 use Rattle.ifmap_elem.specs.Names.{is_name_start, is_name_character, IsNamePart, IsQualified, name_bytes, with_prefix}
-use Rattle.ifmap_lemmas.specs.Cuts.{Stops, cut, front_stops}
+use Rattle.ifmap_lemmas.specs.Cuts.{Stops, one_cut, front_stops}
 use Rattle.ifmap_lemmas.specs.Members.{all_append, all_weaker}
 use Rattle.ifmap_lemmas.specs.Numbers.{is_other}
 
@@ -90,13 +90,13 @@ same_parts : (p l q m : List ℕ) → AllAre is_part_byte p → AllAre is_part_b
     → with_prefix p l ≡ with_prefix q m → (p ≡ q) × (l ≡ m)
 same_parts [] l [] m fp fl fq fm e = (refl, e)
 same_parts [] l (c ∷ cs) m fp fl fq fm e =
-    let both = cut is_part_byte l (c ∷ cs) [] (colon ∷ m) fl fq tt refl (append-nil l ∙ e) in
+    let both = one_cut is_part_byte l (c ∷ cs) [] (colon ∷ m) fl fq tt refl (append-nil l ∙ e) in
     let wrong : [] ≡ colon ∷ m = both.1 in cc
 same_parts (b ∷ bs) l [] m fp fl fq fm e =
-    let both = cut is_part_byte m (b ∷ bs) [] (colon ∷ l) fm fp tt refl (append-nil m ∙ sym e) in
+    let both = one_cut is_part_byte m (b ∷ bs) [] (colon ∷ l) fm fp tt refl (append-nil m ∙ sym e) in
     let wrong : [] ≡ colon ∷ l = both.1 in cc
 same_parts (b ∷ bs) l (c ∷ cs) m fp fl fq fm e =
-    let both = cut is_part_byte (b ∷ bs) (c ∷ cs) (colon ∷ l) (colon ∷ m) fp fq refl refl e in
+    let both = one_cut is_part_byte (b ∷ bs) (c ∷ cs) (colon ∷ l) (colon ∷ m) fp fq refl refl e in
     let after : colon ∷ l ≡ colon ∷ m = both.1 in
     (both.0, cc)
 
@@ -110,7 +110,7 @@ same_name q u i j e =
 pub name_cut : (q u : Qualified) (r s : List ℕ) → IsQualified q → IsQualified u → Stops is_name_byte r → Stops is_name_byte s
     → name_bytes q ++ r ≡ name_bytes u ++ s → (q ≡ u) × (r ≡ s)
 name_cut q u r s i j stop also e =
-    let both = cut is_name_byte (name_bytes q) (name_bytes u) r s (name_are_bytes q i) (name_are_bytes u j) stop also e in
+    let both = one_cut is_name_byte (name_bytes q) (name_bytes u) r s (name_are_bytes q i) (name_are_bytes u j) stop also e in
     (same_name q u i j both.0, both.1)
 
 -- a byte of a name is none of these

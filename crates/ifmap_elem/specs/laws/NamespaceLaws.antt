@@ -44,10 +44,10 @@ left_out : (p : List ℕ → Bool) (xs : Texts) (s : List ℕ) → p s ≡ false
 left_out p xs s e true = refl
 left_out p xs s e false = filter-append p xs (s ∷ []) ∙ (rw e (append-nil (filter p xs)))
 
-kept : (p : List ℕ → Bool) (x : List ℕ) (xs : Texts) (s : List ℕ) → p s ≡ true → (b : Bool)
+keeps_new : (p : List ℕ → Bool) (x : List ℕ) (xs : Texts) (s : List ℕ) → p s ≡ true → (b : Bool)
     → x ∷ filter p (cond b xs (xs ++ s ∷ [])) ≡ cond b (x ∷ filter p xs) (x ∷ (filter p xs ++ s ∷ []))
-kept p x xs s e true = refl
-kept p x xs s e false = ap (λ l. x ∷ l) (filter-append p xs (s ∷ []) ∙ (rw e refl))
+keeps_new p x xs s e true = refl
+keeps_new p x xs s e false = ap (λ l. x ∷ l) (filter-append p xs (s ∷ []) ∙ (rw e refl))
 
 -- one more at the end is new, or changes nothing
 once_each-push : (xs : Texts) (s : List ℕ) → once_each (xs ++ s ∷ []) ≡ cond (among s (once_each xs)) (once_each xs)
@@ -60,7 +60,7 @@ once_each-push (x ∷ xs) s = elim (cases_Bool (bytes_eq s x)) [
   | inr e ↦
       let stays : not (bytes_eq s x) ≡ true = ap not e in
       rw (once_each-push xs s, e, among-others s x (once_each xs) e)
-      (kept (λ y. not (bytes_eq y x)) x (once_each xs) s stays (among s (once_each xs)))
+      (keeps_new (λ y. not (bytes_eq y x)) x (once_each xs) s stays (among s (once_each xs)))
 ]
 
 undeclared : (seen : Texts) (s : List ℕ) → is_declared s ≡ false → declared_among (seen ++ s ∷ []) ≡ declared_among seen

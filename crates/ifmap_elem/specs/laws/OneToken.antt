@@ -1,5 +1,5 @@
 -- At most one token stands at the front of bytes.
--- Each part of a token ends at the first place where its test fails, so two readings of one part agree: `cut` says so of runs, and the
+-- Each part of a token ends at the first place where its test fails, so two readings of one part agree: `one_cut` says so of runs, and the
 -- lemmas `one_..` go from values in quotes to assignments, tags, the declaration and text. That tokens of different kinds do not stand at
 -- the same place is told by their first bytes (`kind_is`).
 use Rattle.std.proofs.Common.{◌≡◌, ◌≢◌, ℕ, Bool, true, false, not, ◌||◌, List, [], ◌∷◌, ◌++◌, map, refl, ap, sym, ◌∙◌, subst, arith, append_assoc, ◌⊎◌, inl, inr}
@@ -21,7 +21,7 @@ use Rattle.ifmap_elem.specs.declared.tokens.Tag.{Tag}
 use Rattle.ifmap_elem.specs.declared.tokens.Token.{Token}
 use Rattle.ifmap_elem.specs.declared.tokens.Token.TheVariants.{Declaration, Comment, Start, Empty, End, Section, Characters}
 use Rattle.ifmap_elem.specs.Tokens.{TakesQuoted, TakesAssignment, TakesTag, TakesSetting, TakesOptional, TakesDeclaration, TakesEnd, EndsText, TakesText, TakesToken}
-use Rattle.ifmap_lemmas.specs.Cuts.{Stops, cut}
+use Rattle.ifmap_lemmas.specs.Cuts.{Stops, one_cut}
 use Rattle.ifmap_lemmas.specs.Members.{all_append}
 use Rattle.ifmap_lemmas.specs.Numbers.{equal_numbers}
 use Rattle.ifmap_elem.specs.laws.Delimiters.{dash_cut, bracket_cut}
@@ -43,14 +43,14 @@ no_run (b ∷ bs) r s some f e =
 
 pub one_part : (bytes : List ℕ) (p q : ValuePart) (r s : List ℕ) → TakesPart bytes p r → TakesPart bytes q s → (p ≡ q) × (r ≡ s)
 one_part bytes (Plain a) (Plain b) r s l m =
-    let both = cut (λ b. not (b == ampersand)) a b r s l.2 m.2 (run_stops r l.3) (run_stops s m.3) (sym l.0 ∙ m.0) in
+    let both = one_cut (λ b. not (b == ampersand)) a b r s l.2 m.2 (run_stops r l.3) (run_stops s m.3) (sym l.0 ∙ m.0) in
     (ap Plain both.0, both.1)
 one_part bytes (Plain a) (Reference c) r s l m = absurd (no_run a r _ l.1 l.2 (sym l.0 ∙ m.1))
 one_part bytes (Reference c) (Plain b) r s l m = absurd (no_run b s _ m.1 m.2 (sym m.0 ∙ l.1))
 one_part bytes (Reference c) (Reference d) r s l m =
     let e : ampersand ∷ (l.0 ++ (semicolon ∷ r)) ≡ ampersand ∷ (m.0 ++ (semicolon ∷ s)) = sym l.1 ∙ m.1 in
     let tail : l.0 ++ (semicolon ∷ r) ≡ m.0 ++ (semicolon ∷ s) = cc in
-    let both = cut (λ b. not (b == semicolon)) l.0 m.0 (semicolon ∷ r) (semicolon ∷ s) l.2 m.2 refl refl tail in
+    let both = one_cut (λ b. not (b == semicolon)) l.0 m.0 (semicolon ∷ r) (semicolon ∷ s) l.2 m.2 refl refl tail in
     let found : Some c ≡ Some d = sym l.3 ∙ ap reference_value both.0 ∙ m.3 in
     let same : c ≡ d = cc in
     let remaining : semicolon ∷ r ≡ semicolon ∷ s = both.1 in
@@ -83,19 +83,20 @@ itself q = let same : (q == q) ≡ true = grind (arith, nat_tests) in rw same re
 
 pub one_quoted : (bytes v w r s : List ℕ) → TakesQuoted bytes v r → TakesQuoted bytes w s → (v ≡ w) × (r ≡ s)
 one_quoted bytes v w r s l m =
-    let first = cut is_white l.before m.before (equals_sign ∷ (l.after ++ (l.quote ∷ (v ++ (l.quote ∷ r)))))
+    let first = one_cut is_white l.before m.before (equals_sign ∷ (l.after ++ (l.quote ∷ (v ++ (l.quote ∷ r)))))
     (equals_sign ∷ (m.after ++ (m.quote ∷ (w ++ (m.quote ∷ s)))))
     l.white_before m.white_before refl refl (sym l.bytes_are ∙ m.bytes_are) in
     let equals : equals_sign ∷ (l.after ++ (l.quote ∷ (v ++ (l.quote ∷ r)))) ≡ equals_sign ∷ (m.after ++ (m.quote ∷ (w ++ (m.quote ∷ s))))
     = first.1 in
     let remaining : l.after ++ (l.quote ∷ (v ++ (l.quote ∷ r))) ≡ m.after ++ (m.quote ∷ (w ++ (m.quote ∷ s))) = cc in
-    let second = cut is_white l.after m.after (l.quote ∷ (v ++ (l.quote ∷ r))) (m.quote ∷ (w ++ (m.quote ∷ s)))
+    let second = one_cut is_white l.after m.after (l.quote ∷ (v ++ (l.quote ∷ r))) (m.quote ∷ (w ++ (m.quote ∷ s)))
     l.white_after m.white_after (quote_is_not_white l.quote l.is_quote) (quote_is_not_white m.quote m.is_quote) remaining in
     let quoted : l.quote ∷ (v ++ (l.quote ∷ r)) ≡ m.quote ∷ (w ++ (m.quote ∷ s)) = second.1 in
     let quote : l.quote ≡ m.quote = cc in
     let inside : v ++ (l.quote ∷ r) ≡ w ++ (m.quote ∷ s) = cc in
     let p : ℕ → Bool = λ b. not (b == l.quote) in
-    let third = cut p v w (l.quote ∷ r) (m.quote ∷ s) l.unquoted (subst (λ (q : ℕ). AllAre (λ b. not (b == q)) w) (sym quote) m.unquoted)
+    let third = one_cut p v w (l.quote ∷ r) (m.quote ∷ s) l.unquoted
+    (subst (λ (q : ℕ). AllAre (λ b. not (b == q)) w) (sym quote) m.unquoted)
     (itself l.quote) (subst (λ (q : ℕ). not (q == l.quote) ≡ false) quote (itself l.quote)) inside in
     let rest : l.quote ∷ r ≡ m.quote ∷ s = third.1 in
     (third.0, cc)
@@ -107,7 +108,7 @@ quoted_stops bytes v r t = subst (Stops is_name_byte) (sym t.bytes_are) (name_st
 pub one_assignment : (bytes : List ℕ) (a b : Assignment) (r s : List ℕ) → TakesAssignment bytes a r → TakesAssignment bytes b s
     → (a ≡ b) × (r ≡ s)
 one_assignment bytes a b r s l m =
-    let first = cut is_white l.white m.white (name_bytes a.name ++ l.after) (name_bytes b.name ++ m.after) l.is_white m.is_white
+    let first = one_cut is_white l.white m.white (name_bytes a.name ++ l.after) (name_bytes b.name ++ m.after) l.is_white m.is_white
     (white_stops_at_name a.name l.after l.is_name) (white_stops_at_name b.name m.after m.is_name) (sym l.bytes_are ∙ m.bytes_are) in
     let second = name_cut a.name b.name l.after m.after l.is_name m.is_name (quoted_stops l.after l.written r l.given)
     (quoted_stops m.after m.written s m.given) first.1 in
@@ -143,7 +144,7 @@ stops_name (b ∷ bs) ends = ends.1
 
 pub no_assignment : (end : List ℕ) (a : Assignment) (rest : List ℕ) → IsTagEnd end → TakesAssignment end a rest → ⊥
 no_assignment bytes a rest i t =
-    let both = cut is_white i.0 t.white i.1 (name_bytes a.name ++ t.after) i.3 t.is_white (stops_white i.1 i.4)
+    let both = one_cut is_white i.0 t.white i.1 (name_bytes a.name ++ t.after) i.3 t.is_white (stops_white i.1 i.4)
     (white_stops_at_name a.name t.after t.is_name) (sym i.2 ∙ t.bytes_are) in
     no_name_ends i.1 a.name t.after t.is_name i.4 both.1
 
@@ -170,7 +171,7 @@ one_tag bytes a b end after ends also l m =
     (m.white ++ after)
     (l.white, end, refl, l.is_white, ends) (m.white, after, refl, m.is_white, also)
     (subst (λ (x : List ℕ). To TakesAssignment x a.assignments (l.white ++ end)) first.1 l.assigned) m.assigned in
-    let third = cut is_white l.white m.white end after l.is_white m.is_white (stops_white end ends) (stops_white after also) second.1 in
+    let third = one_cut is_white l.white m.white end after l.is_white m.is_white (stops_white end ends) (stops_white after also) second.1 in
     (λ k. record { name = first.0 k; assignments = second.0 k }, third.1)
 
 -- the declaration has no `>` but its last byte
@@ -276,7 +277,7 @@ one_declaration : (bytes r s : List ℕ) → TakesDeclaration bytes r → TakesD
 one_declaration bytes r s l m =
     let i = declaration_no_end bytes r l in
     let j = declaration_no_end bytes s m in
-    let both = cut no_end i.0 j.0 (greater_than ∷ r) (greater_than ∷ s) i.2 j.2 refl refl (sym i.1 ∙ j.1) in
+    let both = one_cut no_end i.0 j.0 (greater_than ∷ r) (greater_than ∷ s) i.2 j.2 refl refl (sym i.1 ∙ j.1) in
     let remaining : greater_than ∷ r ≡ greater_than ∷ s = both.1 in
     cc
 
@@ -328,7 +329,7 @@ one_end bytes q u r s l m =
     let inside : name_bytes q ++ (l.white ++ (codes ">" ++ r)) ≡ name_bytes u ++ (m.white ++ (codes ">" ++ s)) = cc in
     let first = name_cut q u (l.white ++ (codes ">" ++ r)) (m.white ++ (codes ">" ++ s)) l.is_name m.is_name
     (name_stops_at_white l.white (codes ">" ++ r) l.is_white refl) (name_stops_at_white m.white (codes ">" ++ s) m.is_white refl) inside in
-    let second = cut is_white l.white m.white (codes ">" ++ r) (codes ">" ++ s) l.is_white m.is_white refl refl first.1 in
+    let second = one_cut is_white l.white m.white (codes ">" ++ r) (codes ">" ++ s) l.is_white m.is_white refl refl first.1 in
     let end : codes ">" ++ r ≡ codes ">" ++ s = second.1 in
     (first.0, cc)
 
@@ -339,7 +340,7 @@ text_stops (b ∷ bs) e = subst (λ (n : ℕ). not (n == less_than) ≡ false) (
 one_text : (bytes : List ℕ) (a b : Bool) (t u r s : List ℕ) → TakesText bytes a t r → TakesText bytes b u s
     → (Characters a t ≡ Characters b u) × (r ≡ s)
 one_text bytes a b t u r s l m =
-    let both = cut (λ b. not (b == less_than)) l.own m.own r s l.no_tag m.no_tag (text_stops r l.ends) (text_stops s m.ends)
+    let both = one_cut (λ b. not (b == less_than)) l.own m.own r s l.no_tag m.no_tag (text_stops r l.ends) (text_stops s m.ends)
     (sym l.bytes_are ∙ m.bytes_are) in
     let blank : a ≡ b = l.blank_is ∙ ap (list_all is_white) both.0 ∙ sym m.blank_is in
     let text : t ≡ u = one_expansion text_part m.own t u (subst (λ (x : List ℕ). IsText x t) both.0 l.means) m.means in

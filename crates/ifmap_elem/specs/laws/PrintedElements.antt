@@ -312,18 +312,18 @@ module _ (prefixes declared : Rows) (outer : Scope) (e : Element) (fit : IsFitAl
       items_of prefixes within_it (c ∷ cs) each,
       subst (λ (s : Scope). AreItems s (contents_of prefixes within_it (c ∷ cs) each) (items_of prefixes within_it (c ∷ cs) each))
           (sym within) (children_mean prefixes within_it (c ∷ cs) each),
-      its_children (items_of prefixes within_it (c ∷ cs) each) (children_are prefixes within_it (c ∷ cs) each ∙ is) opened
+      its_children (items_of prefixes within_it (c ∷ cs) each) (children_are prefixes within_it (c ∷ cs) each ∙ is) children_out
           (items_bare prefixes within_it (c ∷ cs) each),
       refl,
     );
     begins = λ rest. refl;
   }
     where
-      opened : map item_child (items_of prefixes within_it (c ∷ cs) each) ≡ map out-Child e.children
-      opened = children_opened prefixes within_it (c ∷ cs) each ∙ ap (map out-Child) is
+      children_out : map item_child (items_of prefixes within_it (c ∷ cs) each) ≡ map out-Child e.children
+      children_out = children_opened prefixes within_it (c ∷ cs) each ∙ ap (map out-Child) is
 
       apart : AreApart (map item_child (items_of prefixes within_it (c ∷ cs) each))
-      apart = subst AreApart (sym opened) fit.children.apart
+      apart = subst AreApart (sym children_out) fit.children.apart
 
       within : scope_within outer its_tag ≡ within_it
       within = ap (λ l. l ++ outer) (bindings_are prefixes declared within_it e.name e.attributes fits)

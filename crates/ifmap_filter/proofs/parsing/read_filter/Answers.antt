@@ -3,7 +3,7 @@ use Rattle.std.proofs.lemmas.Result.{err_from_is_err_and}
 use Rattle.ifmap_filter.specs.Progress.{filter_state}
 use Rattle.ifmap_filter.specs.Reaching.{IsRefused, ReachesWhite}
 use Rattle.ifmap_filter.specs.Texts.{IsParsed}
-use Rattle.ifmap_filter.proofs.ParseLaws.{begin, ended, go_on, none_left, refused, shorter, some_left}
+use Rattle.ifmap_filter.proofs.ParseLaws.{begin, ends_parse, go_on, none_left, refused, shorter, some_left}
 use Rattle.ifmap_filter.proofs.parsing.read_filter.Goals as goal
 
 pub loop-rest-init : goal.loop-rest-init
@@ -29,7 +29,7 @@ loop-rest-smaller c =
 
 pub returns : goal.returns
 returns c =
-    ended c.args.text.now c.args.scope.now c.utf8.text (filter_state c.loop-rest.standing) c.loop-rest.rest.now c.loop-rest.invariant.0
+    ends_parse c.args.text.now c.args.scope.now c.utf8.text (filter_state c.loop-rest.standing) c.loop-rest.rest.now c.loop-rest.invariant.0
     c.loop-rest.invariant.1 (none_left c.loop-rest.rest.now (sym c.is_empty.ensures ∙ c.loop-rest-test.false)) (length c.args.text.now) refl
     c.whole_filter.result c.whole_filter.ensures
 

@@ -28,7 +28,7 @@ pub returns-clause-others : goal.returns-clause-others
 returns-clause-others g c = holds.others g.met.K.Ord.total (more g (goal.at.returns-clause-others g c).After-hold_one)
 
 pub returns-clause-kept : goal.returns-clause-kept
-returns-clause-kept g c = holds.kept g.met.K.Ord.total (more g (goal.at.returns-clause-kept g c).After-hold_one)
+returns-clause-kept g c = holds.keeps_names g.met.K.Ord.total (more g (goal.at.returns-clause-kept g c).After-hold_one)
 
 pub returns-clause-spare : goal.returns-clause-spare
 returns-clause-spare g c = holds.spare_left g.met.K.Ord.total (more g (goal.at.returns-clause-spare g c).After-hold_one)

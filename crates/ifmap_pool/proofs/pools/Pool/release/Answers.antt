@@ -2,7 +2,7 @@ use Rattle.ifmap_pool.proofs.Releases as releases
 use Rattle.ifmap_pool.proofs.pools.Pool.release.Goals as goal
 
 pub returns-clause-kept : goal.returns-clause-kept
-returns-clause-kept g c = releases.kept c.release_one.ensures.goes
+returns-clause-kept g c = releases.lets_go c.release_one.ensures.goes
 
 pub returns-clause-last : goal.returns-clause-last
 returns-clause-last g c = releases.last c.release_one.ensures.goes
