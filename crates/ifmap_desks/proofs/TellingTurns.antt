@@ -11,13 +11,13 @@ use Rattle.ifmap_hall.specs.declared.book.Asked.{Asked}
 use Rattle.ifmap_hall.specs.declared.book.Asked.TheVariants as asked
 use Rattle.ifmap_dialogue.specs.ifmap_machine.declared.events.Answer.{Answer}
 use Rattle.ifmap_dialogue.specs.ifmap_machine.Events.{Event}
-use Rattle.ifmap_dialogue.specs.ifmap_io.Causes.{one_more}
+use Rattle.ifmap_dialogue.specs.ifmap_io.Causes.{count_after_one}
 
 -- a count that stays, and one that goes on by one
 stays : (before after : ℕ) → after ≡ before → CountRises 0 before after
 stays before after e = record { least = omega (arith, e); most = omega (arith, e) }
 
-goes_on : (before after : ℕ) → after ≡ one_more before → CountRises 1 before after
+goes_on : (before after : ℕ) → after ≡ count_after_one before → CountRises 1 before after
 goes_on before after e = record { least = omega (arith, e); most = omega (arith, e) }
 
 -- a turn makes the call of its answer, and no other

@@ -6,7 +6,7 @@ use Rattle.ifmap_hall.specs.declared.book.Asked.{Asked}
 use Rattle.ifmap_hall.specs.declared.book.Asked.TheVariants.{Done, Held, Spent, NoMemory}
 use Rattle.ifmap_dialogue.specs.ifmap_machine.declared.events.Answer.{Answer}
 use Rattle.ifmap_dialogue.specs.ifmap_machine.Events.{Event}
-use Rattle.ifmap_dialogue.specs.ifmap_io.Causes.{one_more}
+use Rattle.ifmap_dialogue.specs.ifmap_io.Causes.{count_after_one}
 
 -- the answer with the event as it was asked
 abbrev pub plain_asked : Asked FitEvent Answer → Asked Event Answer
@@ -18,6 +18,6 @@ plain_asked (NoMemory event) = NoMemory event.event
 -- the counts with this answer
 abbrev pub Counted : Asked Event Answer → AnswerCounts → AnswerCounts → Type 0
 Counted (Done place answer) old new = new ≡ old
-Counted (Held place event) old new = new ≡ record old { held = one_more old.held }
-Counted (Spent entries event) old new = new ≡ record old { spent = one_more old.spent }
+Counted (Held place event) old new = new ≡ record old { held = count_after_one old.held }
+Counted (Spent entries event) old new = new ≡ record old { spent = count_after_one old.spent }
 Counted (NoMemory event) old new = new ≡ old

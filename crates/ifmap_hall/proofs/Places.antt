@@ -3,7 +3,7 @@ use Rattle.std.proofs.Common.{◌≡◌, ◌≢◌, ◌⊎◌, ℕ, ◌+◌, ◌
 use Rattle.std.proofs.Math.Seq.{drop-append_seam, drop-length}
 use Rattle.std.proofs.lemmas.Bool.Decides.{nat_tests}
 use Rattle.std.proofs.lemmas.Bool.{cases_eq, cases_lt}
-use Rattle.ifmap_hall.specs.Places.{times, once_below, Rises, insert_place, merge}
+use Rattle.ifmap_hall.specs.Places.{times, once_below, RisesBetween, insert_place, merge}
 
 pub times-append : (x : ℕ) (xs ys : List ℕ) → times x (xs ++ ys) ≡ times x xs + times x ys
 times-append x [] ys = omega arith
@@ -30,11 +30,11 @@ once_more x n = elim (cases_eq n x) [
       ]
 ]
 
-pub rises_le : (low : ℕ) (xs : List ℕ) (high higher : ℕ) → Rises low xs high → high ≤ higher → Rises low xs higher
+pub rises_le : (low : ℕ) (xs : List ℕ) (high higher : ℕ) → RisesBetween low xs high → high ≤ higher → RisesBetween low xs higher
 rises_le low [] high higher r h = let a : low ≤ high = r in omega arith
 rises_le low (x ∷ xs) high higher r h = (r.0, rises_le (x + 1) xs high higher r.1 h)
 
-pub rises_snoc : (low : ℕ) (xs : List ℕ) (high : ℕ) → Rises low xs high → Rises low (xs ++ high ∷ []) (high + 1)
+pub rises_snoc : (low : ℕ) (xs : List ℕ) (high : ℕ) → RisesBetween low xs high → RisesBetween low (xs ++ high ∷ []) (high + 1)
 rises_snoc low [] high r = (r, omega arith)
 rises_snoc low (x ∷ xs) high r = (r.0, rises_snoc (x + 1) xs high r.1)
 
@@ -49,17 +49,17 @@ module _ {E : Type 0} where
       (let a = times-append x mine (length taken ∷ []) in let b = once_more x (length taken) in omega arith)
 
   pub gains_rise : (taken whole : List E) (mine : List ℕ) → (whole ≡ taken) ⊎ ((e : E) × (whole ≡ taken ++ e ∷ []))
-      → Rises 0 mine (length taken)
-      → Rises 0 (mine ++ map (λ _. length taken) (drop (length taken) whole)) (length whole)
+      → RisesBetween 0 mine (length taken)
+      → RisesBetween 0 (mine ++ map (λ _. length taken) (drop (length taken) whole)) (length whole)
   gains_rise taken whole mine (inl same) r = rw (same, drop-length taken, append-nil mine) r
   gains_rise taken whole mine (inr more) r =
       rw (more.1, drop-append_seam taken (more.0 ∷ []), length-append taken (more.0 ∷ [])) (rises_snoc 0 mine (length taken) r)
 
-pub rises_bound : (low : ℕ) (xs : List ℕ) (high : ℕ) → Rises low xs high → low ≤ high
+pub rises_bound : (low : ℕ) (xs : List ℕ) (high : ℕ) → RisesBetween low xs high → low ≤ high
 rises_bound low [] high r = r
 rises_bound low (x ∷ xs) high r = let a = r.0 in let b = rises_bound (x + 1) xs high r.1 in omega arith
 
-rises_low : (low higher : ℕ) (xs : List ℕ) (high : ℕ) → low ≤ higher → Rises higher xs high → Rises low xs high
+rises_low : (low higher : ℕ) (xs : List ℕ) (high : ℕ) → low ≤ higher → RisesBetween higher xs high → RisesBetween low xs high
 rises_low low higher [] high h r = let a : higher ≤ high = r in omega arith
 rises_low low higher (x ∷ xs) high h r = let a = r.0 in (omega arith, r.1)
 
@@ -78,8 +78,8 @@ times-merge x (z ∷ zs) ys = let a = times-insert x z (merge zs ys) in let r = 
 times_itself : (x : ℕ) (xs : List ℕ) → times x (x ∷ xs) ≡ 1 + times x xs
 times_itself x xs = let e : nat_eq x x ≡ true = grind (arith, nat_tests) in rw e refl
 
-rises_insert : (low x : ℕ) (ys : List ℕ) (high : ℕ) → Rises low ys high → low ≤ x → x < high → times x ys ≡ 0
-    → Rises low (insert_place x ys) high
+rises_insert : (low x : ℕ) (ys : List ℕ) (high : ℕ) → RisesBetween low ys high → low ≤ x → x < high → times x ys ≡ 0
+    → RisesBetween low (insert_place x ys) high
 rises_insert low x [] high r l h none = (l, omega arith)
 rises_insert low x (y ∷ ys) high r l h none = elim (cases_lt x y) [
   | inl lt ↦
@@ -93,8 +93,9 @@ rises_insert low x (y ∷ ys) high r l h none = elim (cases_lt x y) [
       rw a (r.0, rises_insert (y + 1) x ys high r.1 (omega arith) h rest)
 ]
 
-pub rises_merge : (low : ℕ) (xs ys : List ℕ) (high : ℕ) → Rises low xs high → Rises low ys high → ((x : ℕ) → times x xs + times x ys ≤ 1)
-    → Rises low (merge xs ys) high
+pub rises_merge : (low : ℕ) (xs ys : List ℕ) (high : ℕ) → RisesBetween low xs high → RisesBetween low ys high
+    → ((x : ℕ) → times x xs + times x ys ≤ 1)
+    → RisesBetween low (merge xs ys) high
 rises_merge low [] ys high r s apart = s
 rises_merge low (x ∷ xs) ys high r s apart =
     let a = r.0 in
@@ -112,7 +113,7 @@ once_most x n = at_most_one (nat_lt x n) where
 other_first : (x y : ℕ) (ys : List ℕ) → y ≢ x → times x (y ∷ ys) ≡ times x ys
 other_first x y ys ne = let e : nat_eq y x ≡ false = grind (arith, nat_tests) in rw e (omega arith)
 
-rises_above : (x low : ℕ) (xs : List ℕ) (high : ℕ) → Rises low xs high → x < low → times x xs ≡ 0
+rises_above : (x low : ℕ) (xs : List ℕ) (high : ℕ) → RisesBetween low xs high → x < low → times x xs ≡ 0
 rises_above x low [] high r h = refl
 rises_above x low (y ∷ ys) high r h =
     let a = r.0 in
@@ -120,7 +121,7 @@ rises_above x low (y ∷ ys) high r h =
     other_first x y ys (λ e. omega arith) ∙ rest
 
 -- no place stands twice in a rising list
-pub rises_once : (x low : ℕ) (xs : List ℕ) (high : ℕ) → Rises low xs high → times x xs ≤ 1
+pub rises_once : (x low : ℕ) (xs : List ℕ) (high : ℕ) → RisesBetween low xs high → times x xs ≤ 1
 rises_once x low [] high r = omega arith
 rises_once x low (y ∷ ys) high r = elim (cases_eq y x) [
   | inl e ↦

@@ -2,7 +2,7 @@
 use native.Mathlib.Bridge.{le_prop}
 use Rattle.std.specs.Prelude.{Bool, ◌≤◌, [], length, true, false, nat_eq, nat_lt, if◌then◌else◌, ◌||◌, ◌&&◌}
 use Rattle.ifmap_hall.specs.Histories.{no_history, sight_in}
-use Rattle.ifmap_hall.specs.Places.{Rises, Rises-prop, merge}
+use Rattle.ifmap_hall.specs.Places.{RisesBetween, RisesBetween-prop, merge}
 use Rattle.ifmap_hall.specs.Sights.{Sight}
 use Rattle.ifmap_hall.specs.declared.view.HallHistory.{HallHistory}
 use Rattle.ifmap_hall.specs.declared.view.Terms.{Terms}
@@ -20,13 +20,13 @@ module _ {M E R : Type 0} where
   -- the base has no entry that was not seen, and the places of the pass's own entries rise
   pub record IsSoundView (v : HallView M E R) : Type 0 where
     pub inside : v.history.from ≤ length v.history.log
-    pub mine : Rises 0 v.mine (length v.history.log)
+    pub mine : RisesBetween 0 v.mine (length v.history.log)
 
   -- there is one proof at most of that
   pub IsSoundView-prop : (v : HallView M E R) → IsProp (IsSoundView v)
   IsSoundView-prop v a b = λ i. record {
     inside = le_prop a.inside b.inside i;
-    mine = Rises-prop 0 v.mine (length v.history.log) a.mine b.mine i;
+    mine = RisesBetween-prop 0 v.mine (length v.history.log) a.mine b.mine i;
   }
 
   -- the first pass of a hall

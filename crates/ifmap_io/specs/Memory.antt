@@ -4,7 +4,7 @@
 use Rattle.std.specs.Prelude.{ℕ, ◌+◌, ◌*◌, min, List, Some, map, Contains, Result, IsErr, is_err, if◌then◌else◌, ◌↔◌}
 use Rattle.ifmap_io.specs.Doors.{Doorway}
 use Rattle.ifmap_io.specs.Links.{Seen}
-use Rattle.ifmap_io.specs.Causes.{one_more}
+use Rattle.ifmap_io.specs.Causes.{count_after_one}
 
 -- a source: the bytes that it has left, and its faults
 pub record Feed : Type 0 where
@@ -59,7 +59,7 @@ porch_seen porch = record { left = map cable_seen porch.left; back = map cable_s
 
 -- a count of faults after a call
 abbrev pub faults_after : {T E : Type 0} → Result T E → ℕ → ℕ
-faults_after result faults = if is_err result then one_more faults else faults
+faults_after result faults = if is_err result then count_after_one faults else faults
 
 -- the call of this number failed exactly where it is listed
 abbrev pub FailsAsListed : {T E : Type 0} → List ℕ → ℕ → Result T E → Type 0

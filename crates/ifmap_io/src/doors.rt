@@ -1,7 +1,7 @@
 //! Doors: where links come from, and where they go back to.
 ghost use Rattle.std.specs.Prelude.{◌≡◌, ◌-◌, ◌<◌, ◌↔◌, ◌++◌, ◌∷◌, ℕ, Option, Some, [], IfOk, IsNone, MatchResult, is_some, option_to_list};
 ghost use Rattle.std.specs.VecDeque.{deque_len};
-ghost use Rattle.ifmap_io.specs.Causes.{HasCause, one_more};
+ghost use Rattle.ifmap_io.specs.Causes.{HasCause, count_after_one};
 ghost use Rattle.ifmap_io.specs.Doors.{Doorway, Accepts, TakesBack};
 ghost use Rattle.ifmap_io.specs.Links.{wire_link_seen};
 ghost use Rattle.ifmap_io.specs.Memory.{porch_seen, FailsAsListed, faults_after};
@@ -126,7 +126,7 @@ impl Door for MemoryDoor {
         ensures listed { FailsAsListed self.old.fails self.old.calls result }
         ensures rest { self.new ≡ record self.old {
           left = self.new.left;
-          calls = one_more self.old.calls;
+          calls = count_after_one self.old.calls;
           faults = faults_after result self.old.faults;
         } }
     {

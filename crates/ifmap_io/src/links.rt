@@ -2,7 +2,7 @@
 ghost use Rattle.std.specs.Prelude.{◌≡◌, Contains, IfOk, IsErr, OnErr, Some, length, min};
 ghost use Rattle.std.specs.Io.{ReadsAtMost};
 ghost use Rattle.std.specs.Io.KnownBytes.{Keeps, ReadConsumes};
-ghost use Rattle.ifmap_io.specs.Causes.{HasCause, one_more};
+ghost use Rattle.ifmap_io.specs.Causes.{HasCause, count_after_one};
 ghost use Rattle.ifmap_io.specs.Memory.{FailsAsListed, faults_after};
 ghost use Rattle.ifmap_io.specs.Written.{WritesAll};
 
@@ -101,7 +101,7 @@ impl Source for MemoryLink {
         ensures listed { FailsAsListed self.old.fails self.old.calls result }
         ensures rest { self.new ≡ record self.old {
           left = self.new.left;
-          calls = one_more self.old.calls;
+          calls = count_after_one self.old.calls;
           read_faults = faults_after result self.old.read_faults;
         } }
     {
@@ -124,7 +124,7 @@ impl Sink for MemoryLink {
         ensures none { OnErr result (self.new.held ≡ self.old.held) }
         ensures rest { self.new ≡ record self.old {
           held = self.new.held;
-          calls = one_more self.old.calls;
+          calls = count_after_one self.old.calls;
           write_faults = faults_after result self.old.write_faults;
         } }
     {
@@ -141,7 +141,7 @@ impl Sink for MemoryLink {
         ensures cause { HasCause self.old.write_faults self.new.write_faults result }
         ensures listed { FailsAsListed self.old.fails self.old.calls result }
         ensures rest { self.new ≡ record self.old {
-          calls = one_more self.old.calls;
+          calls = count_after_one self.old.calls;
           write_faults = faults_after result self.old.write_faults;
         } }
     {

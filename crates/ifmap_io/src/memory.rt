@@ -2,7 +2,7 @@
 ghost use Rattle.std.specs.Prelude.{◌≡◌, ◌+◌, ◌-◌, ◌^◌, ◌<◌, ◌≤◌, ◌↔◌, ◌++◌, [], Contains, IfOk, IsErr, IsTrue, OnErr, Some, drop, length, min, take};
 ghost use Rattle.std.specs.Io.{ReadsAtMost};
 ghost use Rattle.std.specs.Io.KnownBytes.{Keeps, ReadConsumes};
-ghost use Rattle.ifmap_io.specs.Causes.{HasCause, Rose, one_more};
+ghost use Rattle.ifmap_io.specs.Causes.{HasCause, Rose, count_after_one};
 ghost use Rattle.ifmap_io.specs.Memory.{FailsAsListed, faults_after};
 ghost use Rattle.ifmap_io.specs.Written.{WritesAll};
 
@@ -69,7 +69,7 @@ impl Source for MemorySource {
         ensures listed { FailsAsListed self.old.fails self.old.calls result }
         ensures rest { self.new ≡ record self.old {
           left = self.new.left;
-          calls = one_more self.old.calls;
+          calls = count_after_one self.old.calls;
           faults = faults_after result self.old.faults;
         } }
     {
@@ -140,7 +140,7 @@ impl Sink for MemorySink {
         ensures none { OnErr result (self.new.held ≡ self.old.held) }
         ensures rest { self.new ≡ record self.old {
           held = self.new.held;
-          calls = one_more self.old.calls;
+          calls = count_after_one self.old.calls;
           faults = faults_after result self.old.faults;
         } }
     {
@@ -157,7 +157,7 @@ impl Sink for MemorySink {
         ensures cause { HasCause self.old.faults self.new.faults result }
         ensures listed { FailsAsListed self.old.fails self.old.calls result }
         ensures rest { self.new ≡ record self.old {
-          calls = one_more self.old.calls;
+          calls = count_after_one self.old.calls;
           faults = faults_after result self.old.faults;
         } }
     {
@@ -169,7 +169,7 @@ impl Sink for MemorySink {
 // Counts this call, which fails where its number is listed, and then the fault.
 pub(crate) fn begin_call(fails: &[u64], calls: &mut u64, faults: &mut u64) -> Result<(), Failed>
     ensures listed { FailsAsListed fails.now calls.old result }
-    ensures counted { calls.new ≡ one_more calls.old }
+    ensures counted { calls.new ≡ count_after_one calls.old }
     ensures faults { faults.new ≡ faults_after result faults.old }
     ensures later { faults.old ≤ faults.new }
     ensures rose { OnErr result (Rose faults.old faults.new) }

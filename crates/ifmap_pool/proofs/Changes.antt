@@ -9,9 +9,9 @@ use Rattle.std.specs.Cmp.{IsTotalOrder}
 use Rattle.std.specs.FinMap as map
 use Rattle.ifmap_lemmas.specs.Options.{is_some_of}
 use Rattle.ifmap_pool.specs.Holdings.{Holdings, IsPresent, IsPool, TakesNumber, Frees, entry_at}
-use Rattle.ifmap_pool.specs.Index.{slot_at, slot_count, Writes, AreFree, IsKeyPlace, IsKept, entry_of, live_of}
+use Rattle.ifmap_pool.specs.Index.{slot_at, slot_count, Writes, AreFree, IsKeyPlace, IsKept, entry_of, live_keys}
 use Rattle.ifmap_pool.specs.declared.slots.HeldKey.{HeldKey}
-use Rattle.ifmap_pool.proofs.Live.{live_of-set, live_of-removed}
+use Rattle.ifmap_pool.proofs.Live.{live_keys-set, live_keys-removed}
 use Rattle.ifmap_pool.proofs.Kept.{IsKeyIndex-written, IsKeyIndex-inserted, IsKeyIndex-removed}
 use Rattle.ifmap_pool.proofs.Named.{Shows, same_holdings, entry_is, entry_known, is_pool, pool_kept, absent_at}
 use Rattle.ifmap_pool.proofs.Emptiness.{one_of, slot_within, written, count_written}
@@ -19,7 +19,7 @@ use Rattle.ifmap_pool.proofs.Emptiness.{one_of, slot_within, written, count_writ
 module _ {K : Type 0} where
   -- what contracts see
   abbrev pub holdings_of : List (Option (HeldKey K)) → ℕ → ℕ → Holdings K
-  holdings_of slots len limit = record { live = live_of slots; spare = limit - len; limit = limit }
+  holdings_of slots len limit = record { live = live_keys slots; spare = limit - len; limit = limit }
 
   -- a write over a slot that is not empty leaves which slots are
   free_written : (slots : List (Option (HeldKey K))) (free : List ℕ) (number : ℕ) (old value : HeldKey K) → slot_at slots number ≡ Some old
@@ -57,7 +57,7 @@ module _ {K : Type 0} where
       whole_now = is_pool shown total kept.indexed (omega (arith, kept.within, limit_is))
 
       -- the same keys, under a limit that is no lower
-      pub whole_after : (new : Holdings K) → new.live ≡ live_of slots → limit ≤ new.limit → IsPool cmp new
+      pub whole_after : (new : Holdings K) → new.live ≡ live_keys slots → limit ≤ new.limit → IsPool cmp new
       whole_after new same le = pool_kept cmp pool new (same ∙ sym shown.live) (omega (arith, le, limit_is)) whole_now
 
       -- where a key is missed there is room for it
@@ -97,7 +97,7 @@ module _ {K : Type 0} where
             subst (λ (x : K × ℕ). holdings_of after len limit ≡ record pool { live = map.insert pool.live number (x.0, counts x.1) })
             (entry_known shown number old entry was there)
             (same_holdings _ _
-            (live_of-set slots after number key_after is_written.changed is_written.others
+            (live_keys-set slots after number key_after is_written.changed is_written.others
             ∙ ap (λ (p : Holdings K). map.insert p.live number (key_after.key, key_after.holds)) is)
             spare_is limit_is)
 
@@ -128,7 +128,7 @@ module _ {K : Type 0} where
         seen_take : TakesNumber pool (holdings_of after longer limit) number key
         seen_take = record {
           free = entry_is shown number ∙ ap (option_map entry_of) vacant;
-          live = live_of-set slots after number once_held writes.changed writes.others
+          live = live_keys-set slots after number once_held writes.changed writes.others
               ∙ ap (λ (p : Holdings K). map.insert p.live number (key, 1)) is;
           spare = omega (arith, spare_is, long, room, kept.counted);
           limit = limit_is;
@@ -153,7 +153,7 @@ module _ {K : Type 0} where
 
         seen_free : Frees pool (holdings_of after shorter limit) number
         seen_free = record {
-          live = live_of-removed slots after number writes.changed writes.others ∙ ap (λ (p : Holdings K). map.remove p.live number) is;
+          live = live_keys-removed slots after number writes.changed writes.others ∙ ap (λ (p : Holdings K). map.remove p.live number) is;
           spare = omega (arith, spare_is, short, len_within);
           limit = limit_is;
         }

@@ -7,7 +7,7 @@ use Rattle.std.specs.Ordering.{nat_cmp}
 use Rattle.std.specs.Cmp.{nat_cmp_total}
 use Rattle.std.specs.FinMap.{find, get, empty, from_entries, insert, len, remove, get-from_entries, get-insert, get-remove, len-empty, len-insert, same_map, nat_cmp-IsAntisymmetric}
 use Rattle.ifmap_lemmas.specs.Numbers.{others_untied, ties_where_equal}
-use Rattle.ifmap_pool.specs.Index.{entries_from, entry_of, live_of, slot_count}
+use Rattle.ifmap_pool.specs.Index.{entries_from, entry_of, live_keys, slot_count}
 use Rattle.ifmap_pool.specs.declared.slots.HeldKey.{HeldKey}
 
 module _ {K : Type 0} where
@@ -35,43 +35,43 @@ module _ {K : Type 0} where
       ∙ find_listed (first + 1) q k rest (omega arith)
 
   -- the map has at a number what its slot has
-  pub get-live_of : (slots : List (Option (HeldKey K))) (number : ℕ) → get (live_of slots) number ≡ option_map entry_of (get_or slots number
-      None)
-  unfolding live_of
-  get-live_of slots number = get-from_entries nat_cmp_total (pairs_from 0 slots) number ∙ find_listed 0 number number slots (omega arith)
+  pub get-live_keys : (slots : List (Option (HeldKey K))) (number : ℕ)
+      → get (live_keys slots) number ≡ option_map entry_of (get_or slots number None)
+  unfolding live_keys
+  get-live_keys slots number = get-from_entries nat_cmp_total (pairs_from 0 slots) number ∙ find_listed 0 number number slots (omega arith)
 
-  pub live_of-nil : (slots : List (Option (HeldKey K))) → slots ≡ [] → live_of slots ≡ empty
-  unfolding live_of
-  live_of-nil slots e = ap (λ s. live_of s) e
+  pub live_keys-nil : (slots : List (Option (HeldKey K))) → slots ≡ [] → live_keys slots ≡ empty
+  unfolding live_keys
+  live_keys-nil slots e = ap (λ s. live_keys s) e
 
   -- a slot that is filled or written
-  pub live_of-set : (old new : List (Option (HeldKey K))) (number : ℕ) (held : HeldKey K)
+  pub live_keys-set : (old new : List (Option (HeldKey K))) (number : ℕ) (held : HeldKey K)
       → get_or new number None ≡ Some held → ((other : ℕ) → other ≢ number → get_or new other None ≡ get_or old other None)
-      → live_of new ≡ insert (live_of old) number (entry_of held)
-  live_of-set old new number held changed others =
+      → live_keys new ≡ insert (live_keys old) number (entry_of held)
+  live_keys-set old new number held changed others =
       same_map nat_cmp_total nat_cmp-IsAntisymmetric _ _ (λ q.
-      get-live_of new q ∙ elim (cases_eq q number) [
+      get-live_keys new q ∙ elim (cases_eq q number) [
         | inl same ↦ ap (λ n. option_map entry_of (get_or new n None)) same ∙ ap (option_map entry_of) changed
-            ∙ sym (get-insert nat_cmp_total (live_of old) number (entry_of held) q
-            ∙ ap (λ b. cond b (Some (entry_of held)) (get (live_of old) q)) ((ties_where_equal q number).1 same))
-        | inr differs ↦ ap (option_map entry_of) (others q differs) ∙ sym (get-live_of old q)
-            ∙ sym (get-insert nat_cmp_total (live_of old) number (entry_of held) q
-            ∙ ap (λ b. cond b (Some (entry_of held)) (get (live_of old) q)) (others_untied q number differs))
+            ∙ sym (get-insert nat_cmp_total (live_keys old) number (entry_of held) q
+            ∙ ap (λ b. cond b (Some (entry_of held)) (get (live_keys old) q)) ((ties_where_equal q number).1 same))
+        | inr differs ↦ ap (option_map entry_of) (others q differs) ∙ sym (get-live_keys old q)
+            ∙ sym (get-insert nat_cmp_total (live_keys old) number (entry_of held) q
+            ∙ ap (λ b. cond b (Some (entry_of held)) (get (live_keys old) q)) (others_untied q number differs))
       ])
 
   -- a slot that is emptied
-  pub live_of-removed : (old new : List (Option (HeldKey K))) (number : ℕ)
+  pub live_keys-removed : (old new : List (Option (HeldKey K))) (number : ℕ)
       → get_or new number None ≡ None → ((other : ℕ) → other ≢ number → get_or new other None ≡ get_or old other None)
-      → live_of new ≡ remove (live_of old) number
-  live_of-removed old new number changed others =
+      → live_keys new ≡ remove (live_keys old) number
+  live_keys-removed old new number changed others =
       same_map nat_cmp_total nat_cmp-IsAntisymmetric _ _ (λ q.
-      get-live_of new q ∙ elim (cases_eq q number) [
+      get-live_keys new q ∙ elim (cases_eq q number) [
         | inl same ↦ ap (λ n. option_map entry_of (get_or new n None)) same ∙ ap (option_map entry_of) changed
-            ∙ sym (get-remove nat_cmp_total (live_of old) number q
-            ∙ ap (λ b. cond b None (get (live_of old) q)) ((ties_where_equal q number).1 same))
-        | inr differs ↦ ap (option_map entry_of) (others q differs) ∙ sym (get-live_of old q)
-            ∙ sym (get-remove nat_cmp_total (live_of old) number q
-            ∙ ap (λ b. cond b None (get (live_of old) q)) (others_untied q number differs))
+            ∙ sym (get-remove nat_cmp_total (live_keys old) number q
+            ∙ ap (λ b. cond b None (get (live_keys old) q)) ((ties_where_equal q number).1 same))
+        | inr differs ↦ ap (option_map entry_of) (others q differs) ∙ sym (get-live_keys old q)
+            ∙ sym (get-remove nat_cmp_total (live_keys old) number q
+            ∙ ap (λ b. cond b None (get (live_keys old) q)) (others_untied q number differs))
       ])
 
   len_listed : (first : ℕ) (slots : List (Option (HeldKey K)))
@@ -91,6 +91,6 @@ module _ {K : Type 0} where
       in omega (arith, more, one, len_listed (first + 1) rest)
 
   -- it has as many keys as slots are not empty
-  pub len-live_of : (slots : List (Option (HeldKey K))) → len (live_of slots) ≡ slot_count slots
-  unfolding live_of
-  len-live_of slots = len_listed 0 slots
+  pub len-live_keys : (slots : List (Option (HeldKey K))) → len (live_keys slots) ≡ slot_count slots
+  unfolding live_keys
+  len-live_keys slots = len_listed 0 slots

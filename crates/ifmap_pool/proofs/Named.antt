@@ -8,15 +8,15 @@ use Rattle.std.specs.FinMap.{get}
 use Rattle.std.specs.declared.cmp.Ordering.TheVariants.{Equal}
 use Rattle.ifmap_lemmas.specs.Options.{is_some_of, some_is}
 use Rattle.ifmap_pool.specs.Holdings.{Holdings, entry_at, key_at, holds_at, Names, IsAbsent, OneToOne, IsPool}
-use Rattle.ifmap_pool.specs.Index.{IsKeyPlace, IsKeyIndex, entry_of, live_of}
+use Rattle.ifmap_pool.specs.Index.{IsKeyPlace, IsKeyIndex, entry_of, live_keys}
 use Rattle.ifmap_pool.specs.declared.slots.HeldKey.{HeldKey}
-use Rattle.ifmap_pool.proofs.Live.{get-live_of}
+use Rattle.ifmap_pool.proofs.Live.{get-live_keys}
 use Rattle.ifmap_pool.proofs.Kept.{one_number, none_missed}
 use Rattle.ifmap_pool.proofs.Emptiness.{slot_within}
 
 -- contracts see the keys of these slots with their counts
 pub record Shows {K : Type 0} (slots : List (Option (HeldKey K))) (pool : Holdings K) : Type 0 where
-  pub live : pool.live ≡ live_of slots
+  pub live : pool.live ≡ live_keys slots
 
 module _ {K : Type 0} where
   pub same_holdings : (a b : Holdings K) → a.live ≡ b.live → a.spare ≡ b.spare → a.limit ≡ b.limit → a ≡ b
@@ -29,7 +29,7 @@ module _ {K : Type 0} where
 
   module _ {slots : List (Option (HeldKey K))} {pool : Holdings K} (shown : Shows slots pool) where
     pub entry_is : (number : ℕ) → entry_at pool number ≡ option_map entry_of (get_or slots number None)
-    entry_is number = ap (λ m. get m number) shown.live ∙ get-live_of slots number
+    entry_is number = ap (λ m. get m number) shown.live ∙ get-live_keys slots number
 
     pub key_is : (number : ℕ) → key_at pool number ≡ option_map (λ held. held.key) (get_or slots number None)
     key_is number = ap (option_map (λ entry. entry.0)) (entry_is number) ∙ by_cases (get_or slots number None)

@@ -27,8 +27,8 @@ module _ {K : Type 0} where
   entry_of held = (held.key, held.holds)
 
   -- the live numbers with their entries, of the slots
-  unfoldable pub live_of : List (Option (HeldKey K)) → FinMap nat_cmp (K × ℕ)
-  live_of slots = from_entries (map (λ e. (e.0, entry_of e.1)) (entries_from 0 slots))
+  unfoldable pub live_keys : List (Option (HeldKey K)) → FinMap nat_cmp (K × ℕ)
+  live_keys slots = from_entries (map (λ e. (e.0, entry_of e.1)) (entries_from 0 slots))
 
   -- the count of a live number is written, and nothing else
   abbrev pub WritesCount : List (Option (HeldKey K)) → List (Option (HeldKey K)) → ℕ → ℕ → Type 0

@@ -37,10 +37,10 @@ impl<K: Ord> Model for Pool<K> {
 
     ghost coded = { holdings_code K.code };
 
-    ghost use Rattle.ifmap_pool.specs.Index.{live_of, IsKept};
+    ghost use Rattle.ifmap_pool.specs.Index.{live_keys, IsKept};
 
     ghost view = { λ pool. record {
-      live = live_of pool.slots.items;
+      live = live_keys pool.slots.items;
       spare = pool.limit - vec_len pool.order;
       limit = pool.limit;
     } };
