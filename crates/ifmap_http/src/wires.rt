@@ -178,7 +178,7 @@ impl<L: Link> Wire<L> {
         ensures side { UsesOneSide L.held L.Sink.faults L.incoming self.old.link self.new.link }
         ensures rest { self.new ≡ record self.old { link = self.new.link } }
     {
-        match post_message(alloc, host.0.as_bytes(), client.text().0.as_bytes(), body) {
+        match post_message(alloc, host.as_bytes(), client.text().as_bytes(), body) {
             Ok(message) => send(&mut self.link, &message),
             Err(_) => Sent::NoMemory,
         }

@@ -80,7 +80,7 @@ fn child_at(element: &Element, index: usize) -> Option<&Element>
         slice_get element.now.children index ≡ Some (Child.Element child.now)) }
 {
     let children = &element.children;
-    match children.0.get(index) {
+    match children.as_slice().get(index) {
         Some(Child::Element(child)) => Some(child),
         _ => None,
     }

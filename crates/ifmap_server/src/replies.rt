@@ -85,6 +85,6 @@ impl AnswerText {
         ensures fault { HasCause (K.faults sink.old) (K.faults sink.new) result }
     {
         write(sink, self.line.as_bytes())?;
-        send(sink, self.reply.0.as_slice())
+        send(sink, self.reply.as_slice())
     }
 }

@@ -163,7 +163,7 @@ fn add_item(
     ensures { OnOk result (items.new.items
         ≡ items.old.items ++ machine.item_if_any (item_by_cause cause name.now) entries) }
 {
-    if entries.0.is_empty() {
+    if entries.is_empty() {
         return Ok(());
     }
     let name = name.copy(alloc)?;
