@@ -1,3 +1,3 @@
 pub mod Commands
-pub mod Laws
 pub mod Words
+pub mod Laws

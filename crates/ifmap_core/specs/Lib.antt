@@ -1,12 +1,12 @@
 -- The machine as it is built, in reading order.
 pub mod Completions
-pub mod Answering
-pub mod Subscribing
-pub mod Ending
 pub mod EmptyPolls
 pub mod Causes
 pub mod Light
 pub mod Bounds
+pub mod Answering
+pub mod Subscribing
+pub mod Ending
 pub mod Counts
 -- What is passed on to the crates above.
 pub mod ifmap_changes

@@ -1,7 +1,7 @@
 -- Desks, in reading order.
 pub mod Holding
-pub mod Calls
 pub mod Machines
+pub mod Calls
 pub mod Recalls
 pub mod Answers
 pub mod Asking

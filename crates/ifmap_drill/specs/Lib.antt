@@ -1,10 +1,10 @@
-pub mod DrillCounts
-pub mod Drilled
-pub mod Drills
-pub mod Events
 pub mod Extent
-pub mod Following
+pub mod Tasks
 pub mod Parts
 pub mod Requests
+pub mod Events
+pub mod Drills
+pub mod DrillCounts
 pub mod Summaries
-pub mod Tasks
+pub mod Drilled
+pub mod Following

@@ -7,9 +7,9 @@ pub mod Named
 pub mod Linked
 pub mod Joined
 pub mod Counted
+pub mod Waits
 pub mod Drafted
 pub mod Turning
-pub mod Waits
 pub mod Inside
 pub mod Bringing
 pub mod Touched

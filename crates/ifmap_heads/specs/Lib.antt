@@ -1,8 +1,8 @@
-pub mod Answers
-pub mod Empty
-pub mod Fields
-pub mod Heads
 pub mod Limits
-pub mod Messages
+pub mod Heads
+pub mod Fields
 pub mod Posts
+pub mod Answers
 pub mod Starts
+pub mod Messages
+pub mod Empty

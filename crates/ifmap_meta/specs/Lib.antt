@@ -1,9 +1,9 @@
-pub mod Cardinality
 pub mod ClientNames
-pub mod Keys
-pub mod KeyWords
+pub mod Cardinality
 pub mod Stamps
 pub mod Stored
+pub mod KeyWords
+pub mod Keys
 pub mod Whole
 -- Laws on the definitions, which crates above cite.
 pub mod laws

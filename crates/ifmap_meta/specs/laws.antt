@@ -1,7 +1,7 @@
 pub mod ClientBytes
-pub mod ContentLaws
-pub mod KeyLaws
-pub mod KeyWordLaws
 pub mod Order
+pub mod ContentLaws
 pub mod StampLaws
 pub mod WholeLaws
+pub mod KeyLaws
+pub mod KeyWordLaws

@@ -1,11 +1,11 @@
-pub mod Awaited
 pub mod Characters
-pub mod Ends
 pub mod Frames
-pub mod Histories
-pub mod Lines
-pub mod Output
-pub mod Replayed
 pub mod Script
+pub mod Output
+pub mod Histories
+pub mod Awaited
+pub mod Ends
 pub mod Statuses
+pub mod Replayed
+pub mod Lines
 pub mod Turns

@@ -1,3 +1,3 @@
 pub mod Options
-pub mod PairLaws
 pub mod Pairs
+pub mod PairLaws

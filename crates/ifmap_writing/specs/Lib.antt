@@ -1,5 +1,5 @@
 pub mod Attributes
-pub mod RequestElements
 pub mod RequestSpaces
+pub mod RequestElements
 pub mod Bounds
 pub mod Laws
