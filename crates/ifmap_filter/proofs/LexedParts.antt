@@ -18,6 +18,7 @@ use Rattle.ifmap_elem.specs.Chars.{AllAre, colon, double_quote, equals_sign, is_
 use Rattle.ifmap_elem.specs.Names.{is_name_character, is_name_start}
 use Rattle.ifmap_filter.specs.declared.tokens.FilterToken.{FilterToken}
 use Rattle.ifmap_filter.specs.declared.tokens.FilterToken.TheVariants.{Any, OpenBracket, CloseBracket, OpenParenthesis, CloseParenthesis, EqualsSign, At, Name, Literal}
+use Rattle.ifmap_filter.specs.FrontLaws.{front_passes}
 use Rattle.ifmap_filter.specs.Printing.{literal_text, quote_of}
 use Rattle.ifmap_filter.specs.Tokens.{FrontToken, Takes, after_while, closed_literal, front_while, literal_at, name_at, name_from, name_token, part_bytes, prefixed_name_at, symbol_of, front_token, token_at, with_symbol, without_white}
 use Rattle.ifmap_filter.proofs.Lexed.{IsOne, IsPart, Lexes, after_all, after_one, front_all, not_white, one_chars, one_first, one_of}
@@ -201,14 +202,6 @@ module _ (p : ℕ → Bool) where
       by false rest = refl
       by true rest = let parts = and_parts _ (all_scalars cs) h in rw (parts.0) rest
 
-  all_front : (cs : List ℕ) → AllAre p (front_while p cs)
-  all_front [] = tt
-  all_front (c ∷ cs) = by (p c) refl (all_front cs)
-    where
-      by : (b : Bool) → p c ≡ b → AllAre p (front_while p cs) → AllAre p (if b then c ∷ front_while p cs else [])
-      by false e rest = tt
-      by true e rest = (e, rest)
-
 part_front_is : (c : ℕ) (cs : List ℕ) → all_scalars (c ∷ cs) ≡ true → is_name_start c ≡ true → IsPart (part_bytes (c ∷ cs))
 part_front_is c cs u starts =
     let front : front_while is_name_character (c ∷ cs) ≡ c ∷ front_while is_name_character cs = rw (starts_are_characters c starts) refl in
@@ -218,7 +211,7 @@ part_front_is c cs u starts =
       scalars = ap all_scalars (sym front) ∙ scalars_front is_name_character (c ∷ cs) u;
       bytes_are = ap encode_utf8_all (sym front);
       begins = starts;
-      goes_on = subst (AllAre is_name_character) front (all_front is_name_character (c ∷ cs));
+      goes_on = subst (AllAre is_name_character) front (front_passes is_name_character (c ∷ cs));
     }
 
 plain_if : (b : Bool) (o : Option FilterToken) (one : FilterToken) → IsToken one → ((s : FilterToken) → o ≡ Some s → IsToken s)
@@ -273,7 +266,7 @@ module _ (t : FilterToken) (rest : List ℕ) where
           own = own;
           scalars = scalars_front (is_but quote) cs u;
           bytes_are = refl;
-          without = all_front (is_but quote) cs;
+          without = front_passes (is_but quote) cs;
         };
       })
 

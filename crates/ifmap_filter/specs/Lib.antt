@@ -2,6 +2,7 @@
 pub mod Holding
 pub mod Meets
 pub mod Tokens
+pub mod FrontLaws
 pub mod Grammar
 pub mod Texts
 pub mod Spaces

@@ -1,4 +1,5 @@
 -- What the crates above name of `ifmap_filter`.
+pub use Rattle.ifmap_filter.specs.FrontLaws
 pub use Rattle.ifmap_filter.specs.Grammar
 pub use Rattle.ifmap_filter.specs.Holding
 pub use Rattle.ifmap_filter.specs.Laws

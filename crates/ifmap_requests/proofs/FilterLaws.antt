@@ -35,6 +35,7 @@ use Rattle.ifmap_forms.specs.ifmap_filter.declared.filters.Filter.{Filter}
 use Rattle.ifmap_forms.specs.ifmap_filter.declared.tokens.FilterToken.{FilterToken}
 use Rattle.ifmap_forms.specs.ifmap_filter.declared.tokens.FilterToken.TheVariants.{Any, OpenBracket, CloseBracket, OpenParenthesis, CloseParenthesis}
 use Rattle.ifmap_forms.specs.ifmap_filter.declared.tokens.FilterToken.TheVariants.{EqualsSign, At, Name, Literal}
+use Rattle.ifmap_forms.specs.ifmap_filter.FrontLaws.{front_passes}
 use Rattle.ifmap_forms.specs.ifmap_filter.Grammar.{AreTests, AsksFor, Rule, StandsFor, TakesAnds, TakesComparison, TakesFactor, TakesGroup, TakesJoined}
 use Rattle.ifmap_forms.specs.ifmap_filter.Grammar.{TakesMore, TakesOrs, TakesPredicate, TakesTest, and_word, join_of, or_word, space_of}
 use Rattle.ifmap_forms.specs.ifmap_filter.Texts.{WritesFilter}
@@ -78,11 +79,6 @@ module _ (p : ℕ → Bool) where
   after_fit : (cs : List ℕ) → AreCharacters cs → AreCharacters (after_while p cs)
   after_fit [] f = tt
   after_fit (c ∷ cs) f = if_either AreCharacters (p c) (after_while p cs) (c ∷ cs) (λ e. after_fit cs f.1) (λ e. f)
-
-  front_passes : (cs : List ℕ) → AllAre p (front_while p cs)
-  front_passes [] = tt
-  front_passes (c ∷ cs) =
-      if_either (AllAre p) (p c) (c ∷ front_while p cs) [] (λ e. (e, front_passes cs)) (λ e. tt)
 
 part_fit : (c : ℕ) (cs : List ℕ) → is_name_start c ≡ true → IsNamePart (part_bytes (c ∷ cs))
 part_fit c cs starts =
