@@ -1,14 +1,13 @@
 -- How lists of numbers compare that are closed by one number: by one below theirs, and by one that they don't have.
-use Rattle.std.proofs.Common.{◌≡◌, ℕ, ◌<◌, ◌≢◌, false, List, [], ◌∷◌, ◌++◌, ap, sym, ◌∙◌}
-use Rattle.std.proofs.lemmas.Map.Lookups.{exact_unsigned}
+use Rattle.std.proofs.Common.{◌≡◌, ℕ, ◌<◌, ◌≢◌, List, [], ◌∷◌, ◌++◌, ap, sym, ◌∙◌}
 use Rattle.std.specs.Cmp.{nat_cmp_is, nat_cmp_total, tied_itself}
 use Rattle.std.specs.Cmp.Lexicographic.{slice_cmp}
 use Rattle.std.specs.List.{AllByRecursion}
-use Rattle.std.specs.Ordering.{is_eq, nat_cmp, ordering_then}
+use Rattle.std.specs.Ordering.{nat_cmp, ordering_then}
 use Rattle.std.specs.declared.cmp.Ordering.{Ordering}
 use Rattle.std.specs.declared.cmp.Ordering.TheVariants.{Less, Equal, Greater}
+use Rattle.ifmap_lemmas.specs.Numbers.{others_untied}
 use Rattle.ifmap_lemmas.specs.Orderings.{then_decided, then_then}
-use Rattle.ifmap_lemmas.specs.Ties.{not_tied}
 
 pub closed_below : (t : ℕ) (p q x y : List ℕ) → AllByRecursion (λ b. t < b) p → AllByRecursion (λ b. t < b) q
     → slice_cmp nat_cmp (p ++ (t ∷ x)) (q ++ (t ∷ y)) ≡ ordering_then (slice_cmp nat_cmp p q) (slice_cmp nat_cmp x y)
@@ -19,12 +18,9 @@ closed_below t (b ∷ p) (d ∷ q) x y f g =
     ap (ordering_then (nat_cmp b d)) (closed_below t p q x y f.1 g.1)
     ∙ then_then (nat_cmp b d) (slice_cmp nat_cmp p q) (slice_cmp nat_cmp x y)
 
-apart : (b c : ℕ) → b ≢ c → is_eq (nat_cmp b c) ≡ false
-apart b c f = not_tied (nat_cmp b c) (λ e. f (exact_unsigned b c e))
-
 -- once two numbers differ, whatever follows
 settled : (b c : ℕ) (o p r : Ordering) → b ≢ c → ordering_then (nat_cmp b c) o ≡ ordering_then (ordering_then (nat_cmp b c) p) r
-settled b c o p r f = then_decided (nat_cmp b c) o (ordering_then p r) (apart b c f) ∙ then_then (nat_cmp b c) p r
+settled b c o p r f = then_decided (nat_cmp b c) o (ordering_then p r) (others_untied b c f) ∙ then_then (nat_cmp b c) p r
 
 pub closed_apart : (t : ℕ) (p q x y : List ℕ) → AllByRecursion (λ b. b ≢ t) p → AllByRecursion (λ b. b ≢ t) q
     → slice_cmp nat_cmp (p ++ (t ∷ x)) (q ++ (t ∷ y))
