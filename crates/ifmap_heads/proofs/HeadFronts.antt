@@ -1,6 +1,7 @@
 -- What holds alike of heads of posts and of answers at the front of bytes, and what no bytes after them can change.
 use Rattle.std.proofs.Common.{◌≡◌, ℕ, ◌+◌, ◌<◌, ◌≤◌, ◌⊎◌, inl, inr, List, [], ◌∷◌, ◌++◌, length, sym, ap, ◌∙◌, subst, arith, append_assoc, length-append}
 use Rattle.ifmap_lemmas.specs.Joined.{shared_front}
+use Rattle.httparse.specs.Ascii.{line_feed}
 use Rattle.httparse.specs.Grammar.{IsRequestHead, IsResponseHead, RequestHead, ResponseHead, print_request, print_response}
 use Rattle.httparse.proofs.GrammarLemmas.{request_prefix_free, response_prefix_free}
 use Rattle.ifmap_heads.specs.Heads.{IsAnswerHead, IsPostHead, line_count}
@@ -69,7 +70,7 @@ module _ {Head : Type 0} (kind : HeadKind Head) where
   abbrev pub Exceeds : List ℕ → Type 0
   Exceeds bytes =
       (front : List ℕ) × (rest : List ℕ) × (bytes ≡ front ++ rest)
-      × (h : Head) × Reads (front ++ 10 ∷ []) h [] × (most_fields < kind.count h)
+      × (h : Head) × Reads (front ++ line_feed ∷ []) h [] × (most_fields < kind.count h)
 
   -- no head within the limits is there, and what is there passes them
   pub record PassesLimits (bytes : List ℕ) : Type 0 where

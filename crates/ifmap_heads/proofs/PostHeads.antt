@@ -3,6 +3,7 @@ use Rattle.std.proofs.Common.{◌≡◌, true, ℕ, ◌<◌, ◌≤◌, inl, inr
 use Rattle.std.proofs.lemmas.List.Elements.{All-cons, All-nil}
 use Rattle.std.proofs.lemmas.Str.{IsUtf8-from_ascii}
 use Rattle.std.proofs.lemmas.Str.Ascii.{IsAscii-from_all}
+use Rattle.httparse.specs.Ascii.{space}
 use Rattle.httparse.specs.Grammar.{EndsInTarget, IsField, IsRequestHead, IsToken, AllPass, LineEnd, NeverHasRequest, ReadsRequest, RequestHead, lf, is_token_byte, is_uri_byte, print_blank, print_request}
 use Rattle.httparse.proofs.GrammarLemmas.{ReadsRequest-append, print_request-append}
 use Rattle.ifmap_heads.specs.Heads.{IsPostHead}
@@ -28,12 +29,16 @@ pub refused_by_head : (bytes more : List ℕ) (h : RequestHead) (rest : List ℕ
 refused_by_head bytes more h rest number reads short few says =
     inr (h, rest ++ more, head_stands bytes more h rest reads short few, says)
 
+-- b'/'
+abbrev slash : ℕ
+slash = 47
+
 -- the shortest head that goes on from what stands before a target
 least_head : List LineEnd → List ℕ → RequestHead
 least_head blank method = record {
   blank = blank;
   method = method;
-  target = 47 ∷ [];
+  target = slash ∷ [];
   minor = 1;
   line_end = lf;
   fields = [];
@@ -48,34 +53,34 @@ least_is_head : (blank : List LineEnd) (method : List ℕ) → IsToken method �
 unfolding least_head
 least_is_head blank method token = record {
   method = token;
-  target = (omega arith, All-cons (λ b. is_uri_byte b ≡ true) 47 [] refl (All-nil (λ b. is_uri_byte b ≡ true)));
-  target_text = IsUtf8-from_ascii (47 ∷ [])
-      (IsAscii-from_all (47 ∷ []) (All-cons (λ b. b < 128) 47 [] (omega arith) (All-nil (λ b. b < 128))));
+  target = (omega arith, All-cons (λ b. is_uri_byte b ≡ true) slash [] refl (All-nil (λ b. is_uri_byte b ≡ true)));
+  target_text = IsUtf8-from_ascii (slash ∷ [])
+      (IsAscii-from_all (slash ∷ []) (All-cons (λ b. b < 128) slash [] (omega arith) (All-nil (λ b. b < 128))));
   minor = omega arith;
   fields = All-nil IsField;
 }
 
 least_printed : (blank : List LineEnd) (method : List ℕ)
-    → print_request (least_head blank method) ++ [] ≡ print_blank blank ++ (method ++ 32 ∷ least_rest)
+    → print_request (least_head blank method) ++ [] ≡ print_blank blank ++ (method ++ space ∷ least_rest)
 unfolding least_head least_rest
 least_printed blank method = print_request-append (least_head blank method) []
 
 never_before_target : (bytes middle : List ℕ) (blank : List LineEnd) (method : List ℕ) → NeverHasRequest bytes → IsToken method
-    → print_blank blank ++ method ++ 32 ∷ [] ≡ bytes ++ middle → ⊥
+    → print_blank blank ++ method ++ space ∷ [] ≡ bytes ++ middle → ⊥
 never_before_target bytes middle blank method never token longer =
     let reads : bytes ++ (middle ++ least_rest) ≡ print_request (least_head blank method) ++ [] =
     sym (append_assoc bytes middle least_rest)
     ∙ ap (λ (xs : List ℕ). xs ++ least_rest) (sym longer)
-    ∙ append_assoc (print_blank blank ++ method) (32 ∷ []) least_rest
-    ∙ append_assoc (print_blank blank) method (32 ∷ least_rest)
+    ∙ append_assoc (print_blank blank ++ method) (space ∷ []) least_rest
+    ∙ append_assoc (print_blank blank) method (space ∷ least_rest)
     ∙ sym (least_printed blank method) in
     never (middle ++ least_rest) (least_head blank method) [] (least_is_head blank method token, reads)
 
 -- bytes that can be no head, and that do not end in a target, end in none with more after them
 pub no_target_more : (bytes more : List ℕ) → NeverHasRequest bytes → ¬ (EndsInTarget bytes) → ¬ (EndsInTarget (bytes ++ more))
 no_target_more bytes more never outside (blank, method, target, token, uri, cut) =
-    let front = print_blank blank ++ method ++ 32 ∷ [] in
-    let joined : front ++ target ≡ bytes ++ more = append_assoc (print_blank blank ++ method) (32 ∷ []) target ∙ sym cut in
+    let front = print_blank blank ++ method ++ space ∷ [] in
+    let joined : front ++ target ≡ bytes ++ more = append_assoc (print_blank blank ++ method) (space ∷ []) target ∙ sym cut in
     elim (fronts front bytes target more joined) [
       | inl on ↦
           let inner = subst (AllPass is_uri_byte) on.shorter uri in
@@ -86,7 +91,7 @@ no_target_more bytes more never outside (blank, method, target, token, uri, cut)
             token,
             all_front (λ b. is_uri_byte b ≡ true) on.middle more inner,
             on.longer ∙ append_assoc
-                (print_blank blank ++ method) (32 ∷ []) on.middle,
+                (print_blank blank ++ method) (space ∷ []) on.middle,
           )
       | inr on ↦ never_before_target bytes on.middle blank method never token on.longer
     ]

@@ -9,6 +9,7 @@ use Rattle.std.proofs.lemmas.Bool.Decides.{nat_tests}
 use Rattle.std.proofs.lemmas.Int.Digits.{digits_value_push}
 use Rattle.std.proofs.lemmas.List.{take_more}
 use Rattle.std.proofs.lemmas.List.Folds.{list_all-append}
+use Rattle.httparse.specs.Ascii.{comma}
 use Rattle.ifmap_lemmas.specs.Letters.{digit_between}
 use Rattle.ifmap_lemmas.specs.Separated.{lacks}
 
@@ -39,4 +40,4 @@ digit_pushed value i number d within is less all low high digit =
 
 -- no comma stands among the bytes
 abbrev pub lacks_comma : List ℕ → Bool
-lacks_comma bytes = lacks 44 bytes
+lacks_comma bytes = lacks comma bytes

@@ -1,11 +1,12 @@
 use Rattle.std.proofs.Common.{◌≡◌, ℕ, ◌<◌, ◌+◌, true, List, ◌∷◌, ◌++◌, length, get_or, take, drop, ap, ◌∙◌, arith}
 use Rattle.std.proofs.lemmas.List.{take_all}
+use Rattle.httparse.specs.Ascii.{comma}
 use Rattle.ifmap_lemmas.specs.Joined.{cut_at_place}
 use Rattle.ifmap_lemmas.specs.Separated.{comma_parts, part_alone, part_at}
 use Rattle.ifmap_heads.proofs.Values.{lacks_comma}
 use Rattle.ifmap_heads.proofs.fields.comma_place.Goals as goal
 
-parts_there : (bytes : List ℕ) (i : ℕ) → i < length bytes → lacks_comma (take i bytes) ≡ true → get_or bytes i 0 ≡ 44
+parts_there : (bytes : List ℕ) (i : ℕ) → i < length bytes → lacks_comma (take i bytes) ≡ true → get_or bytes i 0 ≡ comma
     → comma_parts bytes ≡ take i bytes ∷ comma_parts (drop (i + 1) bytes)
 parts_there bytes i within none here =
     ap comma_parts (cut_at_place bytes i 0 within)
