@@ -30,17 +30,17 @@ gone_first serials (suc n) [] xs = []
 gone_first serials (suc n) (b ∷ gone) [] = b ∷ gone
 gone_first serials (suc n) (b ∷ gone) (x ∷ xs) = (b || is_of serials x) ∷ gone_first serials n gone xs
 
-abbrev pub flagged : Bool → ℕ → List Bool → List Bool
-flagged b n gone = cond b (set gone n true) gone
+abbrev pub flag_at : Bool → ℕ → List Bool → List Bool
+flag_at b n gone = cond b (set gone n true) gone
 
 pub marks_first : (serials : List ℕ) (n : ℕ) (gone : List Bool) (xs : List Standing) (x : Standing) → length gone ≡ length xs
-    → slice_get xs n ≡ Some x → flagged (is_of serials x) n (gone_first serials n gone xs) ≡ gone_first serials (suc n) gone xs
+    → slice_get xs n ≡ Some x → flag_at (is_of serials x) n (gone_first serials n gone xs) ≡ gone_first serials (suc n) gone xs
 marks_first serials n gone [] x long at = absurd (none-some x at)
 marks_first serials n [] (y ∷ xs) x long at = absurd (omega (arith, long))
 marks_first serials zero (b ∷ gone) (y ∷ xs) x long at =
-    subst (λ z. flagged (is_of serials z) 0 (b ∷ gone) ≡ (b || is_of serials y) ∷ gone) (same_Some y x at) (by b (is_of serials y))
+    subst (λ z. flag_at (is_of serials z) 0 (b ∷ gone) ≡ (b || is_of serials y) ∷ gone) (same_Some y x at) (by b (is_of serials y))
   where
-    by : (c d : Bool) → flagged d 0 (c ∷ gone) ≡ (c || d) ∷ gone
+    by : (c d : Bool) → flag_at d 0 (c ∷ gone) ≡ (c || d) ∷ gone
     by true true = refl
     by true false = refl
     by false true = refl
@@ -49,7 +49,7 @@ marks_first serials (suc n) (b ∷ gone) (y ∷ xs) x long at =
     by (is_of serials x) (gone_first serials n gone xs)
     ∙ ap (λ l. (b || is_of serials y) ∷ l) (marks_first serials n gone xs x (omega (arith, long)) at)
   where
-    by : (d : Bool) (l : List Bool) → flagged d (suc n) ((b || is_of serials y) ∷ l) ≡ (b || is_of serials y) ∷ flagged d n l
+    by : (d : Bool) (l : List Bool) → flag_at d (suc n) ((b || is_of serials y) ∷ l) ≡ (b || is_of serials y) ∷ flag_at d n l
     by true l = refl
     by false l = refl
 

@@ -134,15 +134,15 @@ module _ {a : Asking} {old : Parts} {before : Pending} {notes : List Note} {stan
   abbrev next : List Attachment
   next = rows_next old.graph
 
-  abbrev gone : List Bool
-  gone = before.gone.items
+  abbrev gone_flags : List Bool
+  gone_flags = before.gone.items
 
   abbrev ys : List machine.Standing
   ys = map standing_of old.standing.items
 
   -- those that are not gone
   abbrev those : List machine.Standing
-  those = map standing_of (kept_items gone old.standing.items)
+  those = map standing_of (kept_items gone_flags old.standing.items)
 
   -- the sessions that are left
   abbrev lives : List Session
@@ -151,21 +151,21 @@ module _ {a : Asking} {old : Parts} {before : Pending} {notes : List Note} {stan
   shown_now : map standing_of stand_now ≡ ys
   shown_now = same_shown old.standing.items stand_now known.same
 
-  pub flags_now : length gone ≡ length stand_now
+  pub flags_now : length gone_flags ≡ length stand_now
   flags_now = known.ready.flags ∙ sym known.same.long
 
   pub long_news : length news ≡ length stand_now
   long_news = ap length known.are_news
-      ∙ mapped_long (λ (p : Bool × machine.Standing). news_where rows next notes p.0 p.1) gone ys
+      ∙ mapped_long (λ (p : Bool × machine.Standing). news_where rows next notes p.0 p.1) gone_flags ys
       (known.ready.flags ∙ sym (length-map old.standing.items standing_of))
       ∙ length-map old.standing.items standing_of ∙ sym known.same.long
 
-  pub skips : SkipsGone gone news
-  skips i one e f = skip_made (news_where rows next notes) (λ (n : News). n.items) (λ y. refl) gone ys i one e
+  pub skips : SkipsGone gone_flags news
+  skips i one e f = skip_made (news_where rows next notes) (λ (n : News). n.items) (λ y. refl) gone_flags ys i one e
       (ap (λ ns. slice_get ns i) (sym known.are_news) ∙ f)
 
-  pub alone_now : AloneAreBare before.tellings gone stand_now
-  alone_now n h = kept_later (λ x. x.serial ≢ n) (λ x. x.serial ≢ n) gone gone old.standing.items stand_now known.ready.flags
+  pub alone_now : AloneAreBare before.tellings gone_flags stand_now
+  alone_now n h = kept_later (λ x. x.serial ≢ n) (λ x. x.serial ≢ n) gone_flags gone_flags old.standing.items stand_now known.ready.flags
       known.same.long (λ i x y p q other e. other (sym (known.same.at i x y p q).serial ∙ e)) (λ i e. e) (known.ready.alone n h)
 
   pub live_now : AllByRecursion (λ x. IsLive x.serial old.sessions.live) stand_now
@@ -175,28 +175,28 @@ module _ {a : Asking} {old : Parts} {before : Pending} {notes : List Note} {stan
   pub queued : (n : ℕ) → items_for n stand_now news ≡ told_in_session rows next notes those n
   queued n =
       ap (items_for n stand_now) known.are_news
-      ∙ zip_mapped standing_of (λ y. y.serial == n) (λ (one : News). one.items) stand_now (news_of_each rows next notes gone ys)
+      ∙ zip_mapped standing_of (λ y. y.serial == n) (λ (one : News). one.items) stand_now (news_of_each rows next notes gone_flags ys)
       ∙ ap (λ zs. flat_map (λ (p : machine.Standing × News). p.1.items)
-      (filter (λ (p : machine.Standing × News). p.0.serial == n) (zip zs (news_of_each rows next notes gone ys)))) shown_now
+      (filter (λ (p : machine.Standing × News). p.0.serial == n) (zip zs (news_of_each rows next notes gone_flags ys)))) shown_now
       ∙ queued_made (news_where rows next notes) (λ (one : News). one.items) (λ y. refl) (told_to rows next notes) (λ y. refl)
-      (λ y. y.serial == n) gone ys
-      ∙ ap (λ zs. told_in_session rows next notes zs n) (sym (map_kept standing_of gone old.standing.items))
+      (λ y. y.serial == n) gone_flags ys
+      ∙ ap (λ zs. told_in_session rows next notes zs n) (sym (map_kept standing_of gone_flags old.standing.items))
 
   -- which stand
   stand : (alone : ℕ → Bool) (after : List Bool)
-      → after ≡ map (λ (p : Bool × Standing). p.0 || alone p.1.serial) (zip (flags_since gone news) stand_now)
+      → after ≡ map (λ (p : Bool × Standing). p.0 || alone p.1.serial) (zip (flags_since gone_flags news) stand_now)
       → map standing_of (kept_items after stand_now)
       ≡ filter (λ y. not (alone y.serial)) (filter (λ y. not (is_too_big next y.search)) those)
   stand alone after is =
       ap (λ g. map standing_of (kept_items g stand_now)) is
-      ∙ ap (map standing_of) (kept_marked (λ (x : Standing). alone x.serial) (flags_since gone news) stand_now)
-      ∙ map_filter standing_of (λ y. not (alone y.serial)) (kept_items (flags_since gone news) stand_now)
+      ∙ ap (map standing_of) (kept_marked (λ (x : Standing). alone x.serial) (flags_since gone_flags news) stand_now)
+      ∙ map_filter standing_of (λ y. not (alone y.serial)) (kept_items (flags_since gone_flags news) stand_now)
       ∙ ap (filter (λ y. not (alone y.serial)))
-      (map_kept standing_of (flags_since gone news) stand_now
-      ∙ ap (kept_items (flags_since gone news)) shown_now
-      ∙ ap (λ ns. kept_items (flags_since gone ns) ys) known.are_news
-      ∙ kept_made (news_where rows next notes) (λ (one : News). one.is_too_big) (λ y. is_too_big next y.search) (λ y. refl) gone ys
-      ∙ ap (filter (λ y. not (is_too_big next y.search))) (sym (map_kept standing_of gone old.standing.items)))
+      (map_kept standing_of (flags_since gone_flags news) stand_now
+      ∙ ap (kept_items (flags_since gone_flags news)) shown_now
+      ∙ ap (λ ns. kept_items (flags_since gone_flags ns) ys) known.are_news
+      ∙ kept_made (news_where rows next notes) (λ (one : News). one.is_too_big) (λ y. is_too_big next y.search) (λ y. refl) gone_flags ys
+      ∙ ap (filter (λ y. not (is_too_big next y.search))) (sym (map_kept standing_of gone_flags old.standing.items)))
 
   -- what a session has to tell, before it is looked at whether that is too much
   abbrev told_one : Session → Session
@@ -212,14 +212,14 @@ module _ {a : Asking} {old : Parts} {before : Pending} {notes : List Note} {stan
       (told_serial (get nat_cmp before.tellings s.serial) s)))
 
   live_those : AllByRecursion (λ (y : machine.Standing). IsLive y.serial lives) those
-  live_those = all_shown (λ y. IsLive y.serial lives) (kept_items gone old.standing.items)
-      (kept_all (λ x. IsLive x.serial lives) gone old.standing.items known.ready.live)
+  live_those = all_shown (λ y. IsLive y.serial lives) (kept_items gone_flags old.standing.items)
+      (kept_all (λ x. IsLive x.serial lives) gone_flags old.standing.items known.ready.live)
 
   not_alone : (y : machine.Standing) → Has those y → is_alone (get nat_cmp before.tellings y.serial) ≡ false
   not_alone y there = elim (cases_Bool (is_alone (get nat_cmp before.tellings y.serial))) [
     | inl is ↦
-        let bare = all_shown (λ z. z.serial ≢ y.serial) (kept_items gone old.standing.items)
-        (kept_all (λ x. x.serial ≢ y.serial) gone old.standing.items (known.ready.alone y.serial is))
+        let bare = all_shown (λ z. z.serial ≢ y.serial) (kept_items gone_flags old.standing.items)
+        (kept_all (λ x. x.serial ≢ y.serial) gone_flags old.standing.items (known.ready.alone y.serial is))
         in absurd (all_has (λ (z : machine.Standing). z.serial ≢ y.serial) those bare y there refl)
     | inr is ↦ is
   ]
@@ -228,7 +228,7 @@ module _ {a : Asking} {old : Parts} {before : Pending} {notes : List Note} {stan
       (sessions : HasSameSessions old.sessions sessions_now)
       (told : map (tell_by after.tellings) old.sessions.live
       ≡ map (λ s. overflow_session (tell_session (items_for s.serial stand_now news) (tell_by before.tellings s))) old.sessions.live)
-      (is_gone : after.gone.items ≡ flags_of_alone after.tellings (flags_since gone news) stand_now)
+      (is_gone : after.gone.items ≡ flags_of_alone after.tellings (flags_since gone_flags news) stand_now)
       (overrun : (s : Session) → Has old.sessions.live s → is_alone (get nat_cmp after.tellings s.serial)
       ≡ (is_alone (get nat_cmp before.tellings s.serial)
       || is_overfull (tell_session (items_for s.serial stand_now news) (tell_by before.tellings s))))
@@ -236,7 +236,7 @@ module _ {a : Asking} {old : Parts} {before : Pending} {notes : List Note} {stan
       (can_tell : EachTelling (CanTell sessions_now) after.tellings)
       (sized : EachTelling (λ n t. IsSized n t sessions_now.live) after.tellings)
       (bare : AloneAreBare after.tellings after.gone.items stand_now)
-      (kept : AllKept (λ x. IsUpToDate (sight_next old.graph) x.subscription) gone stand_now) where
+      (kept : AllKept (λ x. IsUpToDate (sight_next old.graph) x.subscription) gone_flags stand_now) where
     -- what the sessions have to tell
     tell_each : map (tell_by after.tellings) lives ≡ map overflow_session (map told_one lives)
     tell_each =
@@ -250,21 +250,21 @@ module _ {a : Asking} {old : Parts} {before : Pending} {notes : List Note} {stan
         (λ s. overflow_session (tell_session (items_for s.serial stand_now news) (tell_by before.tellings s))) old.sessions.live told)))
         ∙ sym (map_twice told_one overflow_session lives)
 
-    abbrev alone : ℕ → Bool
-    alone n = is_alone (get nat_cmp after.tellings n)
+    abbrev is_alone_at : ℕ → Bool
+    is_alone_at n = is_alone (get nat_cmp after.tellings n)
 
     -- whether the queue of a session is greater than its limit, of which some subscription is not gone
     overfull_is : (n : ℕ) → is_alone (get nat_cmp before.tellings n) ≡ false → (s : Session) → Has lives s → (s.serial == n) ≡ true
-        → is_overfull (told_one s) ≡ alone n
+        → is_overfull (told_one s) ≡ is_alone_at n
     overfull_is n none s there hit =
         let is : s.serial ≡ n = eqb-true s.serial n hit
         in let one : is_alone (get nat_cmp before.tellings s.serial) ≡ false = ap (λ m. is_alone (get nat_cmp before.tellings m)) is ∙ none
         in let all = overrun s (filter_has (λ (t : Session). stays_in a t.serial) old.sessions.live s there).0
         in ap (λ q. is_overfull (tell_session q (tell_by before.tellings s))) (sym (queued s.serial))
         ∙ ap (λ b. b || is_overfull (tell_session (items_for s.serial stand_now news) (tell_by before.tellings s))) (sym one)
-        ∙ sym all ∙ ap alone is
+        ∙ sym all ∙ ap is_alone_at is
 
-    overrun_one : (y : machine.Standing) → Has those y → alone y.serial ≡ is_overrun (map told_one lives) y
+    overrun_one : (y : machine.Standing) → Has those y → is_alone_at y.serial ≡ is_overrun (map told_one lives) y
     overrun_one y there =
         let n = y.serial
         in let serials : AllByRecursion (λ (s : Session). (s.serial == n) ≡ ((told_one s).serial == n)) lives
@@ -272,32 +272,32 @@ module _ {a : Asking} {old : Parts} {before : Pending} {notes : List Note} {stan
         in let some : list_any (λ (s : Session). (told_one s).serial == n) lives ≡ true
         = sym (any_alike (λ (s : Session). s.serial == n) (λ s. (told_one s).serial == n) lives serials)
         ∙ live_has n lives (all_has (λ (z : machine.Standing). IsLive z.serial lives) those live_those y there)
-        in let each : AllByRecursion (λ (s : Session). ((told_one s).serial == n) ≡ true → is_overfull (told_one s) ≡ alone n) lives
+        in let each : AllByRecursion (λ (s : Session). ((told_one s).serial == n) ≡ true → is_overfull (told_one s) ≡ is_alone_at n) lives
         = has_all _ lives (λ s here hit. overfull_is n (not_alone y there) s here
         (ap (λ m. m == n) (sym (told_serial (get nat_cmp before.tellings s.serial) s)) ∙ hit))
         in sym (any_of_map told_one (λ (t : Session). t.serial == n && is_overfull t) lives
-        ∙ any_of_both (λ s. (told_one s).serial == n) (λ s. is_overfull (told_one s)) (alone n) lives each some)
+        ∙ any_of_both (λ s. (told_one s).serial == n) (λ s. is_overfull (told_one s)) (is_alone_at n) lives each some)
 
     which_stand : map standing_of (kept_items after.gone.items stand_now)
         ≡ filter (λ y. not (is_overrun (map told_one lives) y)) (filter (λ y. not (is_too_big next y.search)) those)
-    which_stand = stand alone after.gone.items is_gone
-        ∙ filter_alike (λ y. not (alone y.serial)) (λ y. not (is_overrun (map told_one lives) y))
+    which_stand = stand is_alone_at after.gone.items is_gone
+        ∙ filter_alike (λ y. not (is_alone_at y.serial)) (λ y. not (is_overrun (map told_one lives) y))
         (filter (λ y. not (is_too_big next y.search)) those)
         (has_all _ (filter (λ y. not (is_too_big next y.search)) those)
         (λ y there. ap not (overrun_one y (filter_has (λ z. not (is_too_big next z.search)) those y there).0)))
 
-    gone_stays : (i : ℕ) → slice_get gone i ≡ Some true → slice_get after.gone.items i ≡ Some true
+    gone_stays : (i : ℕ) → slice_get gone_flags i ≡ Some true → slice_get after.gone.items i ≡ Some true
     gone_stays i e =
-        let long = mapped_long (λ (p : Bool × News). p.0 || p.1.is_too_big) gone news (flags_now ∙ sym long_news)
+        let long = mapped_long (λ (p : Bool × News). p.0 || p.1.is_too_big) gone_flags news (flags_now ∙ sym long_news)
         in ap (λ g. slice_get g i) is_gone
-        ∙ marks_stay (λ (x : Standing). alone x.serial) (flags_since gone news) stand_now (long ∙ long_news) i
-        (marks_stay (λ (one : News). one.is_too_big) gone news (flags_now ∙ sym long_news) i e)
+        ∙ marks_stay (λ (x : Standing). is_alone_at x.serial) (flags_since gone_flags news) stand_now (long ∙ long_news) i
+        (marks_stay (λ (one : News). one.is_too_big) gone_flags news (flags_now ∙ sym long_news) i e)
 
     flags_after : length after.gone.items ≡ length stand_now
     flags_after =
-        let long = mapped_long (λ (p : Bool × News). p.0 || p.1.is_too_big) gone news (flags_now ∙ sym long_news)
+        let long = mapped_long (λ (p : Bool × News). p.0 || p.1.is_too_big) gone_flags news (flags_now ∙ sym long_news)
         in ap length is_gone
-        ∙ mapped_long (λ (p : Bool × Standing). p.0 || alone p.1.serial) (flags_since gone news) stand_now (long ∙ long_news)
+        ∙ mapped_long (λ (p : Bool × Standing). p.0 || is_alone_at p.1.serial) (flags_since gone_flags news) stand_now (long ∙ long_news)
 
     live_told : (n : ℕ) (t : Telling) → get nat_cmp after.tellings n ≡ Some t → IsLive n lives
     live_told n t is = by (get nat_cmp before.tellings n) refl
@@ -336,7 +336,7 @@ module _ {a : Asking} {old : Parts} {before : Pending} {notes : List Note} {stan
           };
           kept = subst (λ xs. AllKept (λ x. IsUpToDate (sight_next new.graph) x.subscription) after.gone.items xs) (sym is_standing)
               (kept_later (λ x. IsUpToDate (sight_next old.graph) x.subscription) (λ x. IsUpToDate (sight_next new.graph) x.subscription)
-              gone
+              gone_flags
               after.gone.items stand_now stand_now flags_now refl
               (λ i x y p q h. subst (λ h. IsUpToDate (sight_next h) y.subscription) (sym graph)
               (subst (λ (z : Standing). IsUpToDate (sight_next old.graph) z.subscription) (same_Some x y (sym p ∙ q)) h)) gone_stays kept);

@@ -5,6 +5,7 @@
 -- `Heard`.
 use Rattle.std.proofs.Common.{◌≡◌, ◌↔◌, refl, sym, ◌∙◌, ap, subst, ℕ, Bool, true, false, List, [], ◌∷◌, Option, None, Some, inl, inr}
 use Rattle.std.proofs.lemmas.Bool.{cases_Bool}
+use Rattle.ifmap_core.proofs.SessionIn.{session_in}
 use Rattle.ifmap_core.specs.Causes.{AsksPoll, IsLoss, PollsNoSession, PollsNothing}
 use Rattle.ifmap_core.specs.EmptyPolls.{HasNothing}
 use Rattle.ifmap_ident.specs.declared.codes.Code.{Code}
@@ -24,7 +25,7 @@ use Rattle.ifmap_subscribes.specs.ifmap_requests.declared.requests.Request.TheVa
 use Rattle.ifmap_subscribes.specs.ifmap_requests.declared.requests.SubscribeOp.{SubscribeOp}
 use Rattle.ifmap_session.specs.ifmap_search.declared.results.PollItem.{PollItem}
 use Rattle.ifmap_session.specs.ifmap_search.declared.searches.Search.{Search}
-use Rattle.ifmap_session.specs.Sessions.{Session, is_same_text, session_with_id}
+use Rattle.ifmap_session.specs.Sessions.{Session, is_same_text}
 use Rattle.ifmap_session.specs.laws.TextLaws.{text_is, text_same}
 
 -- an answer that is no reply is given by no request but a poll
@@ -133,37 +134,37 @@ module _ (state : State) (event : Event) where
   abbrev client : List ℕ
   client = event.client
 
-  abbrev found : List ℕ → Option Session
-  found id = session_with_id id state.sessions
-
   neither : (P Q : Type 0) → (P → ⊥) → (Q → ⊥) → P ↔ Q
   neither P Q f g = ((λ h. absurd (f h)), (λ h. absurd (g h)))
 
   -- no request but a poll is answered so
   module _ (wanted : Answer) (f : (r : AnyReply) → Reply r ≡ wanted → ⊥) where
     renew_other : (id : List ℕ) → (step_ask state event (Request (the_request.RenewSession id))).1 ≡ wanted → ⊥
-    renew_other id = in_none state client wanted f (found id) (renew_session state) (λ s k. f _ k)
+    renew_other id = in_none state client wanted f (session_in state id) (renew_session state) (λ s k. f _ k)
 
     end_other : (id : List ℕ) → (step_ask state event (Request (the_request.EndSession id))).1 ≡ wanted → ⊥
-    end_other id = in_none state client wanted f (found id) (end_session state) (λ s k. f _ k)
+    end_other id = in_none state client wanted f (session_in state id) (end_session state) (λ s k. f _ k)
 
     publish_other : (id : List ℕ) (ops : List PublishOp) → (step_ask state event (Request (the_request.Publish id ops))).1 ≡ wanted → ⊥
-    publish_other id ops = in_none state client wanted f (found id) (publish state ops) (λ s k. f _ k)
+    publish_other id ops = in_none state client wanted f (session_in state id) (publish state ops) (λ s k. f _ k)
 
     search_other : (id : List ℕ) (asked : Search) → (step_ask state event (Request (the_request.Search id asked))).1 ≡ wanted → ⊥
-    search_other id asked = in_none state client wanted f (found id) (search state asked) (search_not state client wanted f asked)
+    search_other id asked = in_none state client wanted f (session_in state id) (search state asked)
+        (search_not state client wanted f asked)
 
     subscribe_other : (id : List ℕ) (ops : List SubscribeOp)
         → (step_ask state event (Request (the_request.Subscribe id ops))).1 ≡ wanted → ⊥
-    subscribe_other id ops = in_none state client wanted f (found id) (subscribe state ops) (subscribe_not state client wanted f ops)
+    subscribe_other id ops = in_none state client wanted f (session_in state id) (subscribe state ops)
+        (subscribe_not state client wanted f ops)
 
     purge_other : (id publisher : List ℕ)
         → (step_ask state event (Request (the_request.PurgePublisher id publisher))).1 ≡ wanted → ⊥
-    purge_other id publisher = in_none state client wanted f (found id) (purge state publisher) (purge_not state client wanted f publisher)
+    purge_other id publisher = in_none state client wanted f (session_in state id) (purge state publisher)
+        (purge_not state client wanted f publisher)
 
   pub held : (ask : Ask) → ((step_ask state event ask).1 ≡ Held) ↔ PollsNothing state client ask
   held (Lost id) =
-      neither _ _ (λ h. let bad : Heard ≡ Held = sym (lost_heard state client (found id)) ∙ h in cc) (λ h. let bad = h.1 in cc)
+      neither _ _ (λ h. let bad : Heard ≡ Held = sym (lost_heard state client (session_in state id)) ∙ h in cc) (λ h. let bad = h.1 in cc)
   held (Request (the_request.NewSession limit)) =
       neither _ _ (new_not state client Held held_no_reply event.random limit) (λ h. let bad = h.1 in cc)
   held (Request (the_request.RenewSession id)) = neither _ _ (renew_other Held held_no_reply id) (λ h. let bad = h.1 in cc)
@@ -172,15 +173,15 @@ module _ (state : State) (event : Event) where
   held (Request (the_request.Search id asked)) = neither _ _ (search_other Held held_no_reply id asked) (λ h. let bad = h.1 in cc)
   held (Request (the_request.Subscribe id ops)) = neither _ _ (subscribe_other Held held_no_reply id ops) (λ h. let bad = h.1 in cc)
   held (Request (the_request.Poll id)) = (
-    (λ h. (id, refl, (poll_held state client event.again (found id)).0 h)),
-    (λ h. (poll_held state client event.again (found id)).1
+    (λ h. (id, refl, (poll_held state client event.again (session_in state id)).0 h)),
+    (λ h. (poll_held state client event.again (session_in state id)).1
         (subst (λ (i : List ℕ). HasNothing state.sessions i client) (sym (poll_id id h.0 h.1)) h.2)),
   )
   held (Request (the_request.PurgePublisher id publisher)) =
       neither _ _ (purge_other Held held_no_reply id publisher) (λ h. let bad = h.1 in cc)
 
   pub heard : (ask : Ask) → ((step_ask state event ask).1 ≡ Heard) ↔ IsLoss ask
-  heard (Lost id) = ((λ h. (id, refl)), (λ h. lost_heard state client (found id)))
+  heard (Lost id) = ((λ h. (id, refl)), (λ h. lost_heard state client (session_in state id)))
   heard (Request (the_request.NewSession limit)) =
       neither _ _ (new_not state client Heard heard_no_reply event.random limit) (λ h. let bad = h.1 in cc)
   heard (Request (the_request.RenewSession id)) = neither _ _ (renew_other Heard heard_no_reply id) (λ h. let bad = h.1 in cc)
@@ -190,7 +191,7 @@ module _ (state : State) (event : Event) where
   heard (Request (the_request.Subscribe id ops)) =
       neither _ _ (subscribe_other Heard heard_no_reply id ops) (λ h. let bad = h.1 in cc)
   heard (Request (the_request.Poll id)) =
-      neither _ _ (poll_not_heard state client event.again (found id)) (λ h. let bad = h.1 in cc)
+      neither _ _ (poll_not_heard state client event.again (session_in state id)) (λ h. let bad = h.1 in cc)
   heard (Request (the_request.PurgePublisher id publisher)) =
       neither _ _ (purge_other Heard heard_no_reply id publisher) (λ h. let bad = h.1 in cc)
 
@@ -198,12 +199,12 @@ module _ (state : State) (event : Event) where
   told_end ask polls =
       subst (λ (a : Ask). ((step_ask state event a).1 ≡ Reply Ended) ↔ PollsNoSession state event.again a) (sym polls.1) (polled polls.0)
     where
-      polled : (id : List ℕ) → ((poll state client event.again (found id)).1 ≡ Reply Ended)
+      polled : (id : List ℕ) → ((poll state client event.again (session_in state id)).1 ≡ Reply Ended)
           ↔ PollsNoSession state event.again (Request (the_request.Poll id))
       polled id = (
-        (λ h. let e = (poll_ended state client event.again (found id)).0 h in (id, refl, e.0, e.1)),
-        (λ h. (poll_ended state client event.again (found id)).1
-            (h.2, subst (λ (i : List ℕ). found i ≡ None) (sym (poll_id id h.0 h.1)) h.3)),
+        (λ h. let e = (poll_ended state client event.again (session_in state id)).0 h in (id, refl, e.0, e.1)),
+        (λ h. (poll_ended state client event.again (session_in state id)).1
+            (h.2, subst (λ (i : List ℕ). session_in state i ≡ None) (sym (poll_id id h.0 h.1)) h.3)),
       )
 
 -- what holds of the answer of one holds of that of another that is the same

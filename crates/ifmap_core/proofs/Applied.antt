@@ -122,20 +122,20 @@ module _ (serial moment : ℕ) (renamings : List Renaming) (old new : Parts) (ta
     (session : AllByRecursion (IsOfSession serial) renamings) (fits : FitsAfter serial renamings old) (one : Session)
     (found : session_with_serial serial old.sessions.live ≡ Some one) (are : AreRenamed serial renamings old new)
     (rest : CanRenameEach serial [] new) (moved : table.live ≡ change serial (with_last moment) new.sessions.live) where
-  abbrev told : Told
-  told = told_in_parts old one
+  abbrev old_told : Told
+  old_told = told_in_parts old one
 
-  stands : map standing_of new.standing.items ≡ (rename_all serial renamings told).standing
+  stands : map standing_of new.standing.items ≡ (rename_all serial renamings old_told).standing
   stands = (are.told one found).0
 
   abbrev told_live : List Session
-  told_live = change serial (λ (x : Session). record x { queue = (rename_all serial renamings told).queue }) old.sessions.live
+  told_live = change serial (λ (x : Session). record x { queue = (rename_all serial renamings old_told).queue }) old.sessions.live
 
   now_live : (n : ℕ) → IsLive n old.sessions.live → IsLive n table.live
   now_live n l =
       subst (IsLive n) (sym moved) (live_changed serial (with_last moment) (renewed_keeps moment) n new.sessions.live
       (subst (IsLive n) (sym (are.told one found).1) (live_changed serial
-      (λ (x : Session). record x { queue = (rename_all serial renamings told).queue })
+      (λ (x : Session). record x { queue = (rename_all serial renamings old_told).queue })
       (record { serial = λ s. refl; id = λ s. refl; client = λ s. refl }) n old.sessions.live l)))
 
   own_live : IsLive serial table.live
@@ -148,7 +148,7 @@ module _ (serial moment : ℕ) (renamings : List Renaming) (old new : Parts) (ta
         subst (λ k. length (standing_in k (map standing_of new.standing.items)) ≤ most_names) is
         (subst (λ t. length (standing_in serial t) ≤ most_names) (sym stands) (fits one found).1)
     | inr other ↦
-        let less = others_few serial n (λ e. not_same n e other) renamings told session in
+        let less = others_few serial n (λ e. not_same n e other) renamings old_told session in
         let before = w_ordered.few n in
         subst (λ t. length (standing_in n t) ≤ most_names) (sym stands) (omega (arith, less, before))
   ]
@@ -164,7 +164,7 @@ module _ (serial moment : ℕ) (renamings : List Renaming) (old new : Parts) (ta
       live = all_of_map (λ (x : machine.Standing). IsLive x.serial table.live) standing_of new.standing.items
           (subst (AllByRecursion (λ (x : machine.Standing). IsLive x.serial table.live)) (sym stands)
           (all_renamed serial (λ (x : machine.Standing). IsLive x.serial table.live)
-          (λ x e. subst (λ n. IsLive n table.live) (sym e) own_live) renamings told session
+          (λ x e. subst (λ n. IsLive n table.live) (sym e) own_live) renamings old_told session
           (all_shown old.standing.items w_ordered.live)));
       few = few_after;
     };
@@ -172,8 +172,8 @@ module _ (serial moment : ℕ) (renamings : List Renaming) (old new : Parts) (ta
         rest.kept;
     within = subst AreWithinLimits (sym moved)
         (within_renewed serial moment new.sessions.live (subst AreWithinLimits (sym (are.told one found).1)
-        (fits_within serial (rename_all serial renamings told).queue old.sessions.live rising w_within
-        (λ s e. subst (λ (x : Session). queue_size (rename_all serial renamings told).queue ≤ x.limit) (same_Some one s (sym found ∙ e))
+        (fits_within serial (rename_all serial renamings old_told).queue old.sessions.live rising w_within
+        (λ s e. subst (λ (x : Session). queue_size (rename_all serial renamings old_told).queue ≤ x.limit) (same_Some one s (sym found ∙ e))
         (fits one found).0))));
   }
     where

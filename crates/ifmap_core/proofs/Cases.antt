@@ -10,6 +10,7 @@ use Rattle.std.specs.Result.{IfOk}
 use Rattle.ifmap_subscribes.specs.ifmap_changes.Between.{Asking, IsSoundSoFar, IsSteady, sessions_left, state_now}
 use Rattle.ifmap_subscribes.specs.ifmap_changes.Changes.{take_session}
 use Rattle.ifmap_subscribes.specs.ifmap_changes.declared.parts.Parts.{Parts}
+use Rattle.ifmap_core.proofs.SessionIn.{session_in}
 use Rattle.ifmap_core.specs.declared.completions.Completion.{Completion}
 use Rattle.ifmap_core.specs.declared.completions.Completion.TheVariants.{Say, Accept}
 use Rattle.ifmap_core.specs.declared.owning.Owner.{Owner}
@@ -86,20 +87,18 @@ live_after a n old new same l = subst (λ (live : List Session). IsLive n (sessi
 -- ---- requests in the client's own session
 
 module _ (state : State) (id client : List ℕ) (serial : ℕ) (o : IsOwner state.sessions id client (Own serial)) where
-  abbrev found : Option Session
-  found = session_with_id id state.sessions
-
   pub own_client : o.0.client ≡ client
   own_client = text_is o.0.client client o.2
 
   renewed_as : (after : State) (answer : Answer) → ◌≡◌ {A = State × Answer} (renew serial after, answer) (renew o.0.serial after, answer)
   renewed_as after answer = ap (λ (k : ℕ). (renew k after, answer)) (sym o.3)
 
-  own_case : (accept : Session → State × Answer) (it : State × Answer) → it ≡ accept o.0 → it ≡ in_session state client found accept
+  own_case : (accept : Session → State × Answer) (it : State × Answer) → it ≡ accept o.0
+      → it ≡ in_session state client (session_in state id) accept
   own_case accept it e = rw (o.1, o.2) e
 
   pub renews : ◌≡◌ {A = State × Answer} (renew serial state, the_answer.Reply the_reply.Renewed)
-      (in_session state client found (renew_session state))
+      (in_session state client (session_in state id) (renew_session state))
   renews = own_case (renew_session state) _ (renewed_as state (the_answer.Reply the_reply.Renewed))
 
   pub author_is : author_in state o.0 ≡ record { client = client; serial = serial; moment = state.moment }
@@ -110,7 +109,7 @@ module _ (state : State) (id client : List ℕ) (serial : ℕ) (o : IsOwner stat
       → (let by : Authorship = record { client = client; serial = serial; moment = state.moment } in
       after ≡ overflow (tell (apply state.graph by ops) (notes_of by ops) state))
       → ◌≡◌ {A = State × Answer} (renew serial after, the_answer.Reply the_reply.Published)
-      (in_session state client found (publish state ops))
+      (in_session state client (session_in state id) (publish state ops))
   publishes ops after e =
       own_case (publish state ops) _ (renewed_as after (the_answer.Reply the_reply.Published)
       ∙ ap (λ (s : State). (renew o.0.serial s, the_answer.Reply the_reply.Published)) (e
@@ -118,14 +117,14 @@ module _ (state : State) (id client : List ℕ) (serial : ℕ) (o : IsOwner stat
 
   pub ends : (after : State) → after ≡ take_session serial state
       → ◌≡◌ {A = State × Answer} (drop_sessions (serial ∷ []) after, the_answer.Reply the_reply.Ended)
-      (in_session state client found (end_session state))
+      (in_session state client (session_in state id) (end_session state))
   ends after e = own_case (end_session state) _ (ap (λ (s : State). (s, the_answer.Reply the_reply.Ended)) (end_is after e))
     where
       end_is : (after : State) → after ≡ take_session serial state → drop_sessions (serial ∷ []) after ≡ end_some (o.0.serial ∷ []) state
       end_is after e = ap (drop_sessions (serial ∷ [])) e ∙ taken_is serial state ∙ ap (λ (n : ℕ). end_some (n ∷ []) state) (sym o.3)
 
   pub loses : (after : State) → after ≡ take_session serial state
-      → ◌≡◌ {A = State × Answer} (drop_sessions (serial ∷ []) after, the_answer.Heard) (lose state client found)
+      → ◌≡◌ {A = State × Answer} (drop_sessions (serial ∷ []) after, the_answer.Heard) (lose state client (session_in state id))
   loses after e =
       rw (o.1, o.2) (ap (λ (s : State). (s, the_answer.Heard))
       (ap (drop_sessions (serial ∷ [])) e ∙ taken_is serial state ∙ ap (λ (n : ℕ). end_some (n ∷ []) state) (sym o.3)))
@@ -133,7 +132,7 @@ module _ (state : State) (id client : List ℕ) (serial : ℕ) (o : IsOwner stat
   pub purges : (publisher : List ℕ) (after : State) → publisher ≡ client
       → after ≡ overflow (tell (retract (Publisher client) state.graph) [] state)
       → ◌≡◌ {A = State × Answer} (renew serial after, the_answer.Reply the_reply.Purged)
-      (in_session state client found (purge state publisher))
+      (in_session state client (session_in state id) (purge state publisher))
   purges publisher after own e =
       let same : is_same_text publisher o.0.client ≡ true = text_same publisher o.0.client (own ∙ sym own_client) in
       own_case (purge state publisher) _ (rw same (renewed_as after (the_answer.Reply the_reply.Purged)
@@ -141,7 +140,7 @@ module _ (state : State) (id client : List ℕ) (serial : ℕ) (o : IsOwner stat
       ∙ ap (λ (t : List ℕ). overflow (tell (retract (Publisher t) state.graph) [] state)) (sym own))))
 
   pub purges_not : (publisher : List ℕ) → (publisher ≡ client → ⊥)
-      → ◌≡◌ {A = State × Answer} (state, refusal AccessDenied) (in_session state client found (purge state publisher))
+      → ◌≡◌ {A = State × Answer} (state, refusal AccessDenied) (in_session state client (session_in state id) (purge state publisher))
   purges_not publisher other =
       let differ : is_same_text publisher o.0.client ≡ false = elim (cases_Bool (is_same_text publisher o.0.client)) [
         | inl hit ↦ absurd (other (text_is publisher o.0.client hit ∙ own_client))
@@ -151,7 +150,7 @@ module _ (state : State) (id client : List ℕ) (serial : ℕ) (o : IsOwner stat
 
   pub finds : (asked : Search) (entries : List Entry) → entries ≡ fresh state.graph asked → fresh_size state.graph asked ≤ asked.max_size
       → ◌≡◌ {A = State × Answer} (renew serial state, the_answer.Reply (the_reply.Found entries))
-      (in_session state client found (search state asked))
+      (in_session state client (session_in state id) (search state asked))
   finds asked entries e few =
       let fits : is_too_big state.graph asked ≡ false = grind (arith, nat_tests, few) in
       own_case (search state asked) _ (rw fits (renewed_as state (the_answer.Reply (the_reply.Found entries))
@@ -159,19 +158,20 @@ module _ (state : State) (id client : List ℕ) (serial : ℕ) (o : IsOwner stat
 
   pub finds_not : (asked : Search) (size : ℕ) → size ≡ fresh_size state.graph asked → asked.max_size < fresh_size state.graph asked
       → ◌≡◌ {A = State × Answer} (state, refusal_with SearchResultsTooBig (limit_note size asked.max_size))
-      (in_session state client found (search state asked))
+      (in_session state client (session_in state id) (search state asked))
   finds_not asked size e many =
       let large : is_too_big state.graph asked ≡ true = grind (arith, nat_tests, many) in
       own_case (search state asked) _ (rw (large, e) refl)
 
-  pub polls : (again : Bool) → poll_found state again (session_with_serial serial state.sessions) ≡ poll state client again found
+  pub polls : (again : Bool) → poll_found state again (session_with_serial serial state.sessions)
+      ≡ poll state client again (session_in state id)
   polls true = rw (o.1, o.2, o.4) refl
   polls false = rw (o.1, o.2, o.4) refl
 
   -- its names
   pub subscribes : (ops : List SubscribeOp)
       → answer_subscribed state o.0 (subscribe_ops state.graph serial ops (record { queue = o.0.queue; standing = state.standing }))
-      ≡ in_session state client found (subscribe state ops)
+      ≡ in_session state client (session_in state id) (subscribe state ops)
   subscribes ops =
       own_case (subscribe state ops) _ (ap (λ (n : ℕ). answer_subscribed state o.0
       (subscribe_ops state.graph n ops (record { queue = o.0.queue; standing = state.standing }))) (sym o.3))

@@ -9,6 +9,7 @@ use Rattle.ifmap_subscribes.specs.ifmap_changes.Between.{Asking, HasNoSubscripti
 use Rattle.ifmap_subscribes.specs.ifmap_changes.Bounds.{IsEndedWithin, IsTakenWithin, IsToldWithin}
 use Rattle.ifmap_subscribes.specs.ifmap_changes.Changes.{state_taken_from, take_session}
 use Rattle.ifmap_subscribes.specs.ifmap_changes.declared.parts.Parts.{Parts}
+use Rattle.ifmap_core.proofs.SessionIn.{session_in}
 use Rattle.ifmap_core.proofs.Cases.{accepts, another_denied, another_hears, another_polls, end_answer, end_said, ends, finds, finds_not, leads_plain, leads_said, live_after, loses, nobody_hears, nobody_missing, nobody_polls, own_left, owner_so_far, polls, publishes, purges, purges_not, renews, says, subscribes}
 use Rattle.ifmap_core.proofs.Spending.{ends_none, ends_within, finds_none, finds_within, publishes_none, publishes_within, purges_none, purges_within, subscribes_none, subscribes_within}
 use Rattle.ifmap_core.specs.Answering.{CanAnswer, GivesCompletion, case_in}
@@ -33,7 +34,7 @@ use Rattle.ifmap_subscribes.specs.ifmap_requests.declared.publish_ops.PublishOp.
 use Rattle.ifmap_subscribes.specs.ifmap_requests.declared.requests.SubscribeOp.{SubscribeOp}
 use Rattle.ifmap_session.specs.ifmap_search.declared.results.Entry.{Entry}
 use Rattle.ifmap_session.specs.ifmap_search.declared.searches.Search.{Search}
-use Rattle.ifmap_session.specs.Sessions.{IsLive, Session, is_same_text, session_with_id, session_with_serial}
+use Rattle.ifmap_session.specs.Sessions.{IsLive, Session, is_same_text, session_with_serial}
 use Rattle.ifmap_subscribes.specs.Bounds.{AreOpsWithin, IsWithinSpan}
 use Rattle.ifmap_subscribes.specs.ifmap_tellings.declared.tellings.Pending.{Pending}
 use Rattle.ifmap_subscribes.specs.ifmap_tellings.Tellings.{HasSameSessions}
@@ -41,9 +42,6 @@ use Rattle.ifmap_subscribes.specs.ifmap_tellings.Tellings.{HasSameSessions}
 module _ {a : Asking} {parts : Parts} {pending : Pending} (can : CanAnswer a parts pending) (id : List ℕ) where
   abbrev state : State
   state = state_now a parts pending
-
-  abbrev found : Option Session
-  found = session_with_id id state.sessions
 
   -- ---- in the client's own session
 
@@ -84,7 +82,7 @@ module _ {a : Asking} {parts : Parts} {pending : Pending} (can : CanAnswer a par
         (purges_not state id a.client serial owner publisher other) r is
 
     pub polls_own : (again : Bool) → LeadsToAnswer (Poll serial again) a parts pending
-        (poll state a.client again found)
+        (poll state a.client again (session_in state id))
     polls_own again =
         leads_plain a parts pending can.steady can.ready (Poll serial again) refl left _ (polls state id a.client serial owner again)
 
@@ -101,7 +99,7 @@ module _ {a : Asking} {parts : Parts} {pending : Pending} (can : CanAnswer a par
           (ends state id a.client serial owner (state_now a new after) told)
 
       pub loses_own : HasNoSubscriptions serial new after → state_now a new after ≡ take_session serial state
-          → LeadsToAnswer (End serial the_answer.Heard) a new after (lose state a.client found)
+          → LeadsToAnswer (End serial the_answer.Heard) a new after (lose state a.client (session_in state id))
       loses_own bare told =
           leads_plain a new after steady ready (End serial the_answer.Heard) refl (still, bare) _
           (loses state id a.client serial owner (state_now a new after) told)
@@ -135,27 +133,27 @@ module _ {a : Asking} {parts : Parts} {pending : Pending} (can : CanAnswer a par
     -- its steps
     module _ (before after : ℕ) where
       pub ends_own_within : IsEndedWithin (serial ∷ []) state before after
-          → IsWithinOwn a.client found (λ s. IsEndedWithin (s.serial ∷ []) state) before after
+          → IsWithinOwn a.client (session_in state id) (λ s. IsEndedWithin (s.serial ∷ []) state) before after
       ends_own_within w = ends_within state id a.client serial owner before after w
 
       pub publishes_own_within : (ops : List PublishOp)
           → (let by : Authorship = record { client = a.client; serial = serial; moment = a.moment } in
           IsToldWithin (apply state.graph by ops) state before after)
-          → IsWithinOwn a.client found
+          → IsWithinOwn a.client (session_in state id)
           (λ s. IsToldWithin (apply state.graph (author_in state s) ops) state) before after
       publishes_own_within ops w = publishes_within state id a.client serial owner before after ops w
 
       pub finds_own_within : (asked : Search) → IsWithinSpan 3 state.graph asked before after
-          → IsWithinOwn a.client found (λ s. IsWithinSpan 3 state.graph asked) before after
+          → IsWithinOwn a.client (session_in state id) (λ s. IsWithinSpan 3 state.graph asked) before after
       finds_own_within asked w = finds_within state id a.client serial owner before after asked w
 
       pub subscribes_own_within : (ops : List SubscribeOp) → AreOpsWithin state.graph ops before after
-          → IsWithinOwn a.client found (λ s. AreOpsWithin state.graph ops) before after
+          → IsWithinOwn a.client (session_in state id) (λ s. AreOpsWithin state.graph ops) before after
       subscribes_own_within ops w = subscribes_within state id a.client serial owner before after ops w
 
       pub purges_own_within : (publisher text : List ℕ) → publisher ≡ a.client → text ≡ a.client
           → IsTakenWithin (Publisher text) state before after
-          → IsWithinOwn a.client found
+          → IsWithinOwn a.client (session_in state id)
           (λ s. IsWithinIf (is_same_text publisher s.client) (IsTakenWithin (Publisher publisher) state)) before after
       purges_own_within publisher text named copied w =
           purges_within state id a.client serial owner before after publisher named
@@ -164,23 +162,23 @@ module _ {a : Asking} {parts : Parts} {pending : Pending} (can : CanAnswer a par
   -- ---- no steps
 
   module _ (n : ℕ) where
-    pub no_ends : IsWithinOwn a.client found (λ s. IsEndedWithin (s.serial ∷ []) state) n n
-    no_ends = ends_none state a.client found n
+    pub no_ends : IsWithinOwn a.client (session_in state id) (λ s. IsEndedWithin (s.serial ∷ []) state) n n
+    no_ends = ends_none state a.client (session_in state id) n
 
     pub no_publishes : (ops : List PublishOp)
-        → IsWithinOwn a.client found (λ s. IsToldWithin (apply state.graph (author_in state s) ops) state) n n
-    no_publishes ops = publishes_none state a.client found n ops
+        → IsWithinOwn a.client (session_in state id) (λ s. IsToldWithin (apply state.graph (author_in state s) ops) state) n n
+    no_publishes ops = publishes_none state a.client (session_in state id) n ops
 
-    pub no_finds : (asked : Search) → IsWithinOwn a.client found (λ s. IsWithinSpan 3 state.graph asked) n n
-    no_finds asked = finds_none state a.client found n asked
+    pub no_finds : (asked : Search) → IsWithinOwn a.client (session_in state id) (λ s. IsWithinSpan 3 state.graph asked) n n
+    no_finds asked = finds_none state a.client (session_in state id) n asked
 
     pub no_subscribes : (ops : List SubscribeOp)
-        → IsWithinOwn a.client found (λ s. AreOpsWithin state.graph ops) n n
-    no_subscribes ops = subscribes_none state a.client found n ops
+        → IsWithinOwn a.client (session_in state id) (λ s. AreOpsWithin state.graph ops) n n
+    no_subscribes ops = subscribes_none state a.client (session_in state id) n ops
 
-    pub no_purges : (publisher : List ℕ) → IsWithinOwn a.client found
+    pub no_purges : (publisher : List ℕ) → IsWithinOwn a.client (session_in state id)
         (λ s. IsWithinIf (is_same_text publisher s.client) (IsTakenWithin (Publisher publisher) state)) n n
-    no_purges publisher = purges_none state a.client found n publisher
+    no_purges publisher = purges_none state a.client (session_in state id) n publisher
 
   -- ---- in a session that is not the client's
 
@@ -199,27 +197,27 @@ module _ {a : Asking} {parts : Parts} {pending : Pending} (can : CanAnswer a par
       (nobody_missing state id a.client (accept state) (owner_so_far a parts pending id a.client Nobody o)) r is
 
   pub another_heard : IsOwner (sessions_left a parts.sessions) id a.client Another
-      → LeadsToAnswer (Say the_answer.Heard) a parts pending (lose state a.client found)
+      → LeadsToAnswer (Say the_answer.Heard) a parts pending (lose state a.client (session_in state id))
   another_heard o =
       leads_said a parts pending can.steady can.ready the_answer.Heard _
       (another_hears state id a.client (owner_so_far a parts pending id a.client Another o))
 
   pub nobody_heard : IsOwner (sessions_left a parts.sessions) id a.client Nobody
-      → LeadsToAnswer (Say the_answer.Heard) a parts pending (lose state a.client found)
+      → LeadsToAnswer (Say the_answer.Heard) a parts pending (lose state a.client (session_in state id))
   nobody_heard o =
       leads_said a parts pending can.steady can.ready the_answer.Heard _
       (nobody_hears state id a.client (owner_so_far a parts pending id a.client Nobody o))
 
   pub another_polled : {E : Type 0} (again : Bool) → IsOwner (sessions_left a parts.sessions) id a.client Another
       → (r : Result Completion E) → IfOk r (λ o. o ≡ Say (refusal AccessDenied))
-      → GivesCompletion r a parts pending (poll state a.client again found)
+      → GivesCompletion r a parts pending (poll state a.client again (session_in state id))
   another_polled again o r is =
       says a parts pending can.steady can.ready (refusal AccessDenied) _
       (another_polls state id a.client again (owner_so_far a parts pending id a.client Another o)) r is
 
   pub nobody_polled : {E : Type 0} (again : Bool) → IsOwner (sessions_left a parts.sessions) id a.client Nobody
       → (r : Result Completion E) → IfOk r (λ o. o ≡ end_of_poll again)
-      → GivesCompletion r a parts pending (poll state a.client again found)
+      → GivesCompletion r a parts pending (poll state a.client again (session_in state id))
   nobody_polled again o r is =
       says a parts pending can.steady can.ready (end_answer again) _
       (nobody_polls state id a.client again (owner_so_far a parts pending id a.client Nobody o)) r

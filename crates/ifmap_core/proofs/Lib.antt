@@ -1,3 +1,4 @@
+pub mod SessionIn
 pub mod Ended
 pub mod Exits
 pub mod Owned

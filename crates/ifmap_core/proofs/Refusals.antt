@@ -11,6 +11,7 @@
 use Rattle.std.proofs.Common.{◌≡◌, ◌≢◌, ◌↔◌, refl, sym, ◌∙◌, ap, subst, ℕ, ◌-◌, ◌^◌, ◌<◌, ◌≤◌, ◌==◌, ◌&&◌, Bool, true, false, List, [], ◌∷◌, length, Option, None, Some, inl, inr, ◌⊎◌, nat_le, is_none, arith}
 use Rattle.std.proofs.lemmas.Bool.{and_from, and_parts, both_ways, cases_Bool, eq-eqb, eqb-true, or_cases, or_left, or_right}
 use Rattle.std.proofs.lemmas.Bool.Decides.{nat_tests}
+use Rattle.ifmap_core.proofs.SessionIn.{session_in}
 use Rattle.ifmap_core.specs.Causes.{AsksForNoneLeft, FindsTooMuch, HasNoRoomForName, IsRefusal, MeetsNoRoom, NamesAnothersSession, NamesNoSession, PurgesAnother}
 use Rattle.ifmap_core.proofs.Rooms.{no_room_where}
 use Rattle.ifmap_subscribes.specs.ifmap_fresh.Fresh.{fresh_size}
@@ -28,7 +29,7 @@ use Rattle.ifmap_subscribes.specs.ifmap_requests.declared.requests.SubscribeOp.{
 use Rattle.ifmap_subscribes.specs.ifmap_requests.declared.requests.Request.TheVariants as the_request
 use Rattle.ifmap_session.specs.ifmap_search.declared.results.PollItem.{PollItem}
 use Rattle.ifmap_session.specs.ifmap_search.declared.searches.Search.{Search}
-use Rattle.ifmap_session.specs.Sessions.{Session, is_same_text, most_sessions, session_of_client, session_with_id}
+use Rattle.ifmap_session.specs.Sessions.{Session, is_same_text, most_sessions, session_of_client}
 use Rattle.ifmap_session.specs.laws.TextLaws.{text_is, text_same}
 
 -- a search refuses for size alone
@@ -91,8 +92,8 @@ subscribe_leaves state s (Some t) code h = absurd h
 abbrev told_in : State → Session → Told
 told_in state s = record { queue = s.queue; standing = state.standing }
 
-abbrev subscribed : State → List SubscribeOp → Session → Option Told
-subscribed state ops s = subscribe_ops state.graph s.serial ops (told_in state s)
+abbrev told_by_ops : State → List SubscribeOp → Session → Option Told
+told_by_ops state ops s = subscribe_ops state.graph s.serial ops (told_in state s)
 
 -- the session's operations come to a name for which there is no room
 abbrev LacksRoom : State → List SubscribeOp → Session → Type 0
@@ -217,7 +218,7 @@ no_room state client None ops = ((λ h. let bad : InvalidSessionID ≡ SystemErr
 no_room state client (Some s) ops = (
   (λ h. elim (cases_Bool (is_same_text s.client client)) [
     | inl hit ↦
-        let none = (subscribe_refuses state s (subscribed state ops s) SystemError (rw hit at h)).1 in
+        let none = (subscribe_refuses state s (told_by_ops state ops s) SystemError (rw hit at h)).1 in
         (s, refl, text_is s.client client hit, (no_room_where state.graph s.serial ops (told_in state s)).0 none)
     | inr miss ↦ let bad : AccessDenied ≡ SystemError = rw miss at h in cc
   ]),
@@ -226,7 +227,7 @@ no_room state client (Some s) ops = (
       let own : is_same_text s.client client ≡ true = text_same s.client client (ap (λ (t : Session). t.client) (sym same) ∙ h.2) in
       let meets = subst (LacksRoom state ops) same h.3 in
       let none = (no_room_where state.graph s.serial ops (told_in state s)).1 meets in
-      rw own (subscribe_refused state s (subscribed state ops s) none)),
+      rw own (subscribe_refused state s (told_by_ops state ops s) none)),
 )
 
 -- a new session
@@ -281,53 +282,50 @@ module _ (state : State) (event : Event) where
   abbrev client : List ℕ
   client = event.client
 
-  abbrev found : List ℕ → Option Session
-  found id = session_with_id id state.sessions
-
   pub invalid_session : (ask : Ask) → IsRefusal InvalidSessionID (step_ask state event ask).1
       ↔ NamesNoSession state event.again ask
-  invalid_session (Lost id) = ((λ h. absurd (lost_never state client (found id) InvalidSessionID h)), (λ e. let bad = e.0 in cc))
+  invalid_session (Lost id) = ((λ h. absurd (lost_never state client (session_in state id) InvalidSessionID h)), (λ e. let bad = e.0 in cc))
   invalid_session (Request (the_request.NewSession limit)) = (
     (λ h. let bad : SystemError ≡ InvalidSessionID = (new_refuses state client event.random limit InvalidSessionID h).0 in cc),
     (λ e. let bad = e.0 in cc),
   )
-  invalid_session (Request (the_request.RenewSession id)) = missing state client (renew_session state) (found id) (λ s h. h)
-  invalid_session (Request (the_request.EndSession id)) = missing state client (end_session state) (found id) (λ s h. h)
-  invalid_session (Request (the_request.Publish id ops)) = missing state client (publish state ops) (found id) (λ s h. h)
+  invalid_session (Request (the_request.RenewSession id)) = missing state client (renew_session state) (session_in state id) (λ s h. h)
+  invalid_session (Request (the_request.EndSession id)) = missing state client (end_session state) (session_in state id) (λ s h. h)
+  invalid_session (Request (the_request.Publish id ops)) = missing state client (publish state ops) (session_in state id) (λ s h. h)
   invalid_session (Request (the_request.Search id asked)) =
-      missing state client (search state asked) (found id)
+      missing state client (search state asked) (session_in state id)
       (λ s h. let bad : SearchResultsTooBig ≡ InvalidSessionID = (search_refuses state asked s InvalidSessionID h).0 in cc)
   invalid_session (Request (the_request.Subscribe id ops)) =
-      missing state client (subscribe state ops) (found id)
-      (λ s h. let bad : SystemError ≡ InvalidSessionID = (subscribe_refuses state s (subscribed state ops s) InvalidSessionID h).0 in cc)
-  invalid_session (Request (the_request.Poll id)) = poll_missing state client event.again (found id)
+      missing state client (subscribe state ops) (session_in state id)
+      (λ s h. let bad : SystemError ≡ InvalidSessionID = (subscribe_refuses state s (told_by_ops state ops s) InvalidSessionID h).0 in cc)
+  invalid_session (Request (the_request.Poll id)) = poll_missing state client event.again (session_in state id)
   invalid_session (Request (the_request.PurgePublisher id publisher)) =
-      missing state client (purge state publisher) (found id)
+      missing state client (purge state publisher) (session_in state id)
       (λ s h. let bad : AccessDenied ≡ InvalidSessionID = (purge_refuses state publisher s InvalidSessionID h).0 in cc)
 
   pub access_denied : (ask : Ask) → IsRefusal AccessDenied (step_ask state event ask).1
       ↔ (NamesAnothersSession state client ask ⊎ PurgesAnother state client ask)
   access_denied (Lost id) = (
-    (λ h. absurd (lost_never state client (found id) AccessDenied h)),
+    (λ h. absurd (lost_never state client (session_in state id) AccessDenied h)),
     (λ h. elim h [ inl there ↦ let bad = there.1 in cc | inr bad ↦ absurd bad ]),
   )
   access_denied (Request (the_request.NewSession limit)) = (
     (λ h. let bad : SystemError ≡ AccessDenied = (new_refuses state client event.random limit AccessDenied h).0 in cc),
     (λ h. elim h [ inl there ↦ let bad = there.1 in cc | inr bad ↦ absurd bad ]),
   )
-  access_denied (Request (the_request.RenewSession id)) = denied state client (renew_session state) (found id) (λ s h. h)
-  access_denied (Request (the_request.EndSession id)) = denied state client (end_session state) (found id) (λ s h. h)
-  access_denied (Request (the_request.Publish id ops)) = denied state client (publish state ops) (found id) (λ s h. h)
+  access_denied (Request (the_request.RenewSession id)) = denied state client (renew_session state) (session_in state id) (λ s h. h)
+  access_denied (Request (the_request.EndSession id)) = denied state client (end_session state) (session_in state id) (λ s h. h)
+  access_denied (Request (the_request.Publish id ops)) = denied state client (publish state ops) (session_in state id) (λ s h. h)
   access_denied (Request (the_request.Search id asked)) =
-      denied state client (search state asked) (found id)
+      denied state client (search state asked) (session_in state id)
       (λ s h. let bad : SearchResultsTooBig ≡ AccessDenied = (search_refuses state asked s AccessDenied h).0 in cc)
   access_denied (Request (the_request.Subscribe id ops)) =
-      denied state client (subscribe state ops) (found id)
-      (λ s h. let bad : SystemError ≡ AccessDenied = (subscribe_refuses state s (subscribed state ops s) AccessDenied h).0 in cc)
-  access_denied (Request (the_request.Poll id)) = poll_denied state client event.again (found id)
+      denied state client (subscribe state ops) (session_in state id)
+      (λ s h. let bad : SystemError ≡ AccessDenied = (subscribe_refuses state s (told_by_ops state ops s) AccessDenied h).0 in cc)
+  access_denied (Request (the_request.Poll id)) = poll_denied state client event.again (session_in state id)
   access_denied (Request (the_request.PurgePublisher id publisher)) =
-      denied_here state client (purge state publisher) (found id)
-      (((s : Session) × (found id ≡ Some s) × (s.client ≡ client)) × (publisher ≢ client)) (λ s e own h. (
+      denied_here state client (purge state publisher) (session_in state id)
+      (((s : Session) × (session_in state id ≡ Some s) × (s.client ≡ client)) × (publisher ≢ client)) (λ s e own h. (
         (s, e, text_is s.client client own),
         λ same. both_ways (is_same_text publisher s.client) (purge_refuses state publisher s AccessDenied h).1
             (text_same publisher s.client (same ∙ sym (text_is s.client client own))),
@@ -347,59 +345,59 @@ module _ (state : State) (event : Event) where
 
   pub system_error : (ask : Ask) → IsRefusal SystemError (step_ask state event ask).1
       ↔ (AsksForNoneLeft state client ask ⊎ HasNoRoomForName state client ask)
-  system_error (Lost id) = never _ (λ h. lost_never state client (found id) SystemError h)
+  system_error (Lost id) = never _ (λ h. lost_never state client (session_in state id) SystemError h)
   system_error (Request (the_request.NewSession limit)) = (
     (λ h. inl ((none_left state client event.random limit).0 h)),
     (λ h. elim h [ inl full ↦ (none_left state client event.random limit).1 full | inr bad ↦ absurd bad ]),
   )
   system_error (Request (the_request.RenewSession id)) =
-      never _ (λ h. other state client (renew_session state) (found id) SystemError (λ e. cc) (λ e. cc) (λ s k. k) h)
+      never _ (λ h. other state client (renew_session state) (session_in state id) SystemError (λ e. cc) (λ e. cc) (λ s k. k) h)
   system_error (Request (the_request.EndSession id)) =
-      never _ (λ h. other state client (end_session state) (found id) SystemError (λ e. cc) (λ e. cc) (λ s k. k) h)
+      never _ (λ h. other state client (end_session state) (session_in state id) SystemError (λ e. cc) (λ e. cc) (λ s k. k) h)
   system_error (Request (the_request.Publish id ops)) =
-      never _ (λ h. other state client (publish state ops) (found id) SystemError (λ e. cc) (λ e. cc) (λ s k. k) h)
+      never _ (λ h. other state client (publish state ops) (session_in state id) SystemError (λ e. cc) (λ e. cc) (λ s k. k) h)
   system_error (Request (the_request.Search id asked)) =
-      never _ (λ h. other state client (search state asked) (found id) SystemError (λ e. cc) (λ e. cc)
+      never _ (λ h. other state client (search state asked) (session_in state id) SystemError (λ e. cc) (λ e. cc)
       (λ s k. let bad : SearchResultsTooBig ≡ SystemError = (search_refuses state asked s SystemError k).0 in cc) h)
   system_error (Request (the_request.Subscribe id ops)) = (
-    (λ h. inr ((no_room state client (found id) ops).0 h)),
-    (λ h. elim h [ inl bad ↦ absurd bad | inr none ↦ (no_room state client (found id) ops).1 none ]),
+    (λ h. inr ((no_room state client (session_in state id) ops).0 h)),
+    (λ h. elim h [ inl bad ↦ absurd bad | inr none ↦ (no_room state client (session_in state id) ops).1 none ]),
   )
   system_error (Request (the_request.Poll id)) =
-      never _ (λ h. poll_other state client event.again (found id) SystemError (λ e. cc) (λ e. cc) h)
+      never _ (λ h. poll_other state client event.again (session_in state id) SystemError (λ e. cc) (λ e. cc) h)
   system_error (Request (the_request.PurgePublisher id publisher)) =
-      never _ (λ h. other state client (purge state publisher) (found id) SystemError (λ e. cc) (λ e. cc)
+      never _ (λ h. other state client (purge state publisher) (session_in state id) SystemError (λ e. cc) (λ e. cc)
       (λ s k. let bad : AccessDenied ≡ SystemError = (purge_refuses state publisher s SystemError k).0 in cc) h)
 
   pub too_big : (ask : Ask) → IsRefusal SearchResultsTooBig (step_ask state event ask).1 ↔ FindsTooMuch state client ask
-  too_big (Lost id) = ((λ h. absurd (lost_never state client (found id) SearchResultsTooBig h)), (λ h. absurd h))
+  too_big (Lost id) = ((λ h. absurd (lost_never state client (session_in state id) SearchResultsTooBig h)), (λ h. absurd h))
   too_big (Request (the_request.NewSession limit)) = (
     (λ h. let bad : SystemError ≡ SearchResultsTooBig = (new_refuses state client event.random limit SearchResultsTooBig h).0 in cc),
     (λ h. absurd h),
   )
   too_big (Request (the_request.RenewSession id)) = (
-    (λ h. absurd (other state client (renew_session state) (found id) SearchResultsTooBig (λ e. cc) (λ e. cc) (λ s k. k) h)),
+    (λ h. absurd (other state client (renew_session state) (session_in state id) SearchResultsTooBig (λ e. cc) (λ e. cc) (λ s k. k) h)),
     (λ h. absurd h),
   )
   too_big (Request (the_request.EndSession id)) = (
-    (λ h. absurd (other state client (end_session state) (found id) SearchResultsTooBig (λ e. cc) (λ e. cc) (λ s k. k) h)),
+    (λ h. absurd (other state client (end_session state) (session_in state id) SearchResultsTooBig (λ e. cc) (λ e. cc) (λ s k. k) h)),
     (λ h. absurd h),
   )
   too_big (Request (the_request.Publish id ops)) = (
-    (λ h. absurd (other state client (publish state ops) (found id) SearchResultsTooBig (λ e. cc) (λ e. cc) (λ s k. k) h)),
+    (λ h. absurd (other state client (publish state ops) (session_in state id) SearchResultsTooBig (λ e. cc) (λ e. cc) (λ s k. k) h)),
     (λ h. absurd h),
   )
-  too_big (Request (the_request.Search id asked)) = too_much state client (found id) asked
+  too_big (Request (the_request.Search id asked)) = too_much state client (session_in state id) asked
   too_big (Request (the_request.Subscribe id ops)) = (
-    (λ h. absurd (other state client (subscribe state ops) (found id) SearchResultsTooBig (λ e. cc) (λ e. cc)
+    (λ h. absurd (other state client (subscribe state ops) (session_in state id) SearchResultsTooBig (λ e. cc) (λ e. cc)
         (λ s k. let bad : SystemError ≡ SearchResultsTooBig = (subscribe_refuses state s
-        (subscribed state ops s) SearchResultsTooBig k).0 in cc) h)),
+        (told_by_ops state ops s) SearchResultsTooBig k).0 in cc) h)),
     (λ h. absurd h),
   )
   too_big (Request (the_request.Poll id)) =
-      ((λ h. absurd (poll_other state client event.again (found id) SearchResultsTooBig (λ e. cc) (λ e. cc) h)), (λ h. absurd h))
+      ((λ h. absurd (poll_other state client event.again (session_in state id) SearchResultsTooBig (λ e. cc) (λ e. cc) h)), (λ h. absurd h))
   too_big (Request (the_request.PurgePublisher id publisher)) = (
-    (λ h. absurd (other state client (purge state publisher) (found id) SearchResultsTooBig (λ e. cc) (λ e. cc)
+    (λ h. absurd (other state client (purge state publisher) (session_in state id) SearchResultsTooBig (λ e. cc) (λ e. cc)
         (λ s k. let bad : AccessDenied ≡ SearchResultsTooBig = (purge_refuses state publisher s SearchResultsTooBig k).0 in cc) h)),
     (λ h. absurd h),
   )
@@ -407,16 +405,19 @@ module _ (state : State) (event : Event) where
   -- a refusal changes nothing
   pub refusal_leaves : (code : Code) (ask : Ask) → IsRefusal code (step_ask state event ask).1
       → (step_ask state event ask).0 ≡ state
-  refusal_leaves code (Lost id) h = absurd (lost_never state client (found id) code h)
+  refusal_leaves code (Lost id) h = absurd (lost_never state client (session_in state id) code h)
   refusal_leaves code (Request (the_request.NewSession limit)) h = new_leaves state client event.random limit code h
   refusal_leaves code (Request (the_request.RenewSession id)) h =
-      leaves state client (renew_session state) (found id) code (λ s k. absurd k) h
-  refusal_leaves code (Request (the_request.EndSession id)) h = leaves state client (end_session state) (found id) code (λ s k. absurd k) h
-  refusal_leaves code (Request (the_request.Publish id ops)) h = leaves state client (publish state ops) (found id) code (λ s k. absurd k) h
+      leaves state client (renew_session state) (session_in state id) code (λ s k. absurd k) h
+  refusal_leaves code (Request (the_request.EndSession id)) h =
+      leaves state client (end_session state) (session_in state id) code (λ s k. absurd k) h
+  refusal_leaves code (Request (the_request.Publish id ops)) h =
+      leaves state client (publish state ops) (session_in state id) code (λ s k. absurd k) h
   refusal_leaves code (Request (the_request.Search id asked)) h =
-      leaves state client (search state asked) (found id) code (λ s k. search_leaves state asked s code k) h
+      leaves state client (search state asked) (session_in state id) code (λ s k. search_leaves state asked s code k) h
   refusal_leaves code (Request (the_request.Subscribe id ops)) h =
-      leaves state client (subscribe state ops) (found id) code (λ s k. subscribe_leaves state s (subscribed state ops s) code k) h
-  refusal_leaves code (Request (the_request.Poll id)) h = poll_leaves state client event.again (found id) code h
+      leaves state client (subscribe state ops) (session_in state id) code
+      (λ s k. subscribe_leaves state s (told_by_ops state ops s) code k) h
+  refusal_leaves code (Request (the_request.Poll id)) h = poll_leaves state client event.again (session_in state id) code h
   refusal_leaves code (Request (the_request.PurgePublisher id publisher)) h =
-      leaves state client (purge state publisher) (found id) code (λ s k. purge_leaves state publisher s code k) h
+      leaves state client (purge state publisher) (session_in state id) code (λ s k. purge_leaves state publisher s code k) h

@@ -7,6 +7,7 @@ use Rattle.std.specs.Option.{option_map}
 use Rattle.ifmap_subscribes.specs.ifmap_changes.Between.{Asking, sessions_left, state_now, state_at}
 use Rattle.ifmap_subscribes.specs.ifmap_changes.Bounds.{IsEndedWithin, IsTakenWithin, IsToldWithin}
 use Rattle.ifmap_subscribes.specs.ifmap_changes.declared.parts.Parts.{Parts}
+use Rattle.ifmap_core.proofs.SessionIn.{session_in}
 use Rattle.ifmap_core.proofs.Begun.{former_so_far, so_far_with}
 use Rattle.ifmap_core.proofs.Cases.{author_is, own_client}
 use Rattle.ifmap_core.proofs.Expiring.{some_expired}
@@ -97,14 +98,11 @@ ask_none state event (Request (the_request.PurgePublisher id publisher)) n =
 -- ---- a request in the client's own session
 
 module _ (state : State) (id client : List ℕ) (serial : ℕ) (o : IsOwner state.sessions id client (Own serial)) (before after : ℕ) where
-  abbrev found : Option Session
-  found = session_with_id id state.sessions
-
-  own_is : (Within : Session → ℕ → ℕ → Type 0) → Within o.0 before after → IsWithinOwn client found Within before after
+  own_is : (Within : Session → ℕ → ℕ → Type 0) → Within o.0 before after → IsWithinOwn client (session_in state id) Within before after
   own_is Within w = rw (o.1, o.2) w
 
   pub ends_within : IsEndedWithin (serial ∷ []) state before after
-      → IsWithinOwn client found (λ s. IsEndedWithin (s.serial ∷ []) state) before after
+      → IsWithinOwn client (session_in state id) (λ s. IsEndedWithin (s.serial ∷ []) state) before after
   ends_within w =
       own_is (λ s. IsEndedWithin (s.serial ∷ []) state)
       (subst (λ (n : ℕ). IsEndedWithin (n ∷ []) state before after) (sym o.3) w)
@@ -112,22 +110,22 @@ module _ (state : State) (id client : List ℕ) (serial : ℕ) (o : IsOwner stat
   pub publishes_within : (ops : List PublishOp)
       → (let by : Authorship = record { client = client; serial = serial; moment = state.moment } in
       IsToldWithin (apply state.graph by ops) state before after)
-      → IsWithinOwn client found (λ s. IsToldWithin (apply state.graph (author_in state s) ops) state) before after
+      → IsWithinOwn client (session_in state id) (λ s. IsToldWithin (apply state.graph (author_in state s) ops) state) before after
   publishes_within ops w =
       own_is (λ s. IsToldWithin (apply state.graph (author_in state s) ops) state)
       (subst (λ (by : Authorship). IsToldWithin (apply state.graph by ops) state before after) (sym (author_is state id client serial o)) w)
 
   pub finds_within : (asked : Search) → IsWithinSpan 3 state.graph asked before after
-      → IsWithinOwn client found (λ s. IsWithinSpan 3 state.graph asked) before after
+      → IsWithinOwn client (session_in state id) (λ s. IsWithinSpan 3 state.graph asked) before after
   finds_within asked w = own_is (λ s. IsWithinSpan 3 state.graph asked) w
 
   pub subscribes_within : (ops : List SubscribeOp) → AreOpsWithin state.graph ops before after
-      → IsWithinOwn client found (λ s. AreOpsWithin state.graph ops) before after
+      → IsWithinOwn client (session_in state id) (λ s. AreOpsWithin state.graph ops) before after
   subscribes_within ops w = own_is (λ s. AreOpsWithin state.graph ops) w
 
   pub purges_within : (publisher : List ℕ) → publisher ≡ client → IsTakenWithin (Publisher client) state before after
-      → IsWithinOwn client found (λ s. IsWithinIf (is_same_text publisher s.client) (IsTakenWithin (Publisher publisher) state)) before
-      after
+      → IsWithinOwn client (session_in state id)
+      (λ s. IsWithinIf (is_same_text publisher s.client) (IsTakenWithin (Publisher publisher) state)) before after
   purges_within publisher own w =
       let same : is_same_text publisher o.0.client ≡ true
       = text_same publisher o.0.client (own ∙ sym (own_client state id client serial o)) in

@@ -85,27 +85,28 @@ outside true false a f = refl
 outside true true a f = ap not (f refl refl)
 
 module _ (tells : BytesTellIdentifiers) (one other : ViewSeen) (s : Search) (graph : IsGraph one.rows) (beside : IsGraph other.rows) where
-  abbrev met : Stored → Bool
-  met t = meets_optional s.result_filter t.element
+  abbrev is_met : Stored → Bool
+  is_met t = meets_optional s.result_filter t.element
 
   abbrev ties : Attachment → Stored → Bool
-  ties r o = eq_by_cmp stored_order o r.stored && met o
+  ties r o = eq_by_cmp stored_order o r.stored && is_met o
 
-  abbrev told : Attachment → Bool
-  told r = is_looked_at one.rows s r.item && (met r.stored && not (has_met s.result_filter (shown_on other.rows s r.item) r.stored))
+  abbrev is_lacked : Attachment → Bool
+  is_lacked r = is_looked_at one.rows s r.item && (is_met r.stored && not (has_met s.result_filter (shown_on other.rows s r.item) r.stored))
 
-  abbrev left : List Item → List Entry
-  left = surplus_on s.result_filter (shown_on one.rows s) (shown_on other.rows s)
+  abbrev entries_left : List Item → List Entry
+  entries_left = surplus_on s.result_filter (shown_on one.rows s) (shown_on other.rows s)
 
-  joined : (is : List Item) → left is ≡ map row_entry (filter told (gathered_rows one.rows is))
+  joined : (is : List Item) → entries_left is ≡ map row_entry (filter is_lacked (gathered_rows one.rows is))
   joined [] = refl
   joined (x ∷ xs) =
-      ap (λ l. l ++ left xs)
-      (one_item x (is_looked_at one.rows s x) (λ t. met t && not (has_met s.result_filter (shown_on other.rows s x) t)) told (λ t. refl)
+      ap (λ l. l ++ entries_left xs)
+      (one_item x (is_looked_at one.rows s x) (λ t. is_met t && not (has_met s.result_filter (shown_on other.rows s x) t)) is_lacked
+      (λ t. refl)
       (stored_on x one.rows))
-      ∙ ap (λ l. map row_entry (filter told (map (row_at x) (stored_on x one.rows))) ++ l) (joined xs)
-      ∙ sym (map-append row_entry (filter told (map (row_at x) (stored_on x one.rows))) (filter told (gathered_rows one.rows xs)))
-      ∙ sym (ap (map row_entry) (filter-append told (map (row_at x) (stored_on x one.rows)) (gathered_rows one.rows xs)))
+      ∙ ap (λ l. map row_entry (filter is_lacked (map (row_at x) (stored_on x one.rows))) ++ l) (joined xs)
+      ∙ sym (map-append row_entry (filter is_lacked (map (row_at x) (stored_on x one.rows))) (filter is_lacked (gathered_rows one.rows xs)))
+      ∙ sym (ap (map row_entry) (filter-append is_lacked (map (row_at x) (stored_on x one.rows)) (gathered_rows one.rows xs)))
 
   in_other : (r : Attachment) → IsCanonItem r.item
       → has_entry (fresh other.rows s) (row_entry r) ≡ has_met s.result_filter (shown_on other.rows s r.item) r.stored
@@ -118,7 +119,7 @@ module _ (tells : BytesTellIdentifiers) (one other : ViewSeen) (s : Search) (gra
           let e = any_has (same_entry (row_entry r)) (fresh other.rows s) h
           in let m = map_has row_entry (filter (is_found other.rows s) other.rows) e.0 e.1
           in let f = filter_has (is_found other.rows s) other.rows m.0 m.1
-          in let p = and_parts (is_looked_at other.rows s m.0.item) (met m.0.stored) f.1
+          in let p = and_parts (is_looked_at other.rows s m.0.item) (is_met m.0.stored) f.1
           in let q : same_entry (row_entry r) (row_entry m.0) ≡ true = subst (λ y. same_entry (row_entry r) y ≡ true) (sym m.2) e.2
           in let k = and_parts (same_item r.item m.0.item) (bytes_eq (entry_bytes (row_entry r)) (entry_bytes (row_entry m.0))) q
           in let at : r.item ≡ m.0.item = same_item_is tells r.item m.0.item i.identifiers
@@ -130,7 +131,7 @@ module _ (tells : BytesTellIdentifiers) (one other : ViewSeen) (s : Search) (gra
           (subst (λ x. same_item m.0.item x ≡ true) (sym at) (item_itself m.0.item)))
           in subst (λ b. list_any (ties r) (cond b (stored_on r.item other.rows) []) ≡ true) (sym looked)
           (has_any (ties r) (stored_on r.item other.rows) m.0.stored there
-          (and_from (eq_by_cmp stored_order m.0.stored r.stored) (met m.0.stored) (bytes_tie r m.0 k.1) p.1))
+          (and_from (eq_by_cmp stored_order m.0.stored r.stored) (is_met m.0.stored) (bytes_tie r m.0 k.1) p.1))
 
       backward : (b : Bool) → is_looked_at other.rows s r.item ≡ b
           → has_met s.result_filter (cond b (stored_on r.item other.rows) []) r.stored ≡ true
@@ -138,14 +139,14 @@ module _ (tells : BytesTellIdentifiers) (one other : ViewSeen) (s : Search) (gra
       backward false looked h = let q : false ≡ true = h in cc
       backward true looked h =
           let t = any_has (ties r) (stored_on r.item other.rows) h
-          in let p = and_parts (eq_by_cmp stored_order t.0 r.stored) (met t.0) t.2
+          in let p = and_parts (eq_by_cmp stored_order t.0 r.stored) (is_met t.0) t.2
           in let m = map_has (λ (x : Attachment). x.stored) (filter (λ x. same_item x.item r.item) other.rows) t.0 t.1
           in let f = filter_has (λ (x : Attachment). same_item x.item r.item) other.rows m.0 m.1
           in let at : m.0.item ≡ r.item = same_item_is tells m.0.item r.item
           (member (λ r. IsCanonItem r.item) other.rows beside.items m.0 f.0).identifiers i.identifiers f.1
           in let seen : is_looked_at other.rows s m.0.item ≡ true = subst (λ x. is_looked_at other.rows s x ≡ true) (sym at) looked
-          in let meets : met m.0.stored ≡ true = subst (λ y. met y ≡ true) (sym m.2) p.1
-          in let is : is_found other.rows s m.0 ≡ true = and_from (is_looked_at other.rows s m.0.item) (met m.0.stored) seen meets
+          in let meets : is_met m.0.stored ≡ true = subst (λ y. is_met y ≡ true) (sym m.2) p.1
+          in let is : is_found other.rows s m.0 ≡ true = and_from (is_looked_at other.rows s m.0.item) (is_met m.0.stored) seen meets
           in let bytes : bytes_eq (entry_bytes (row_entry r)) (entry_bytes (row_entry m.0)) ≡ true
           = tie_bytes r m.0 (subst (λ y. eq_by_cmp stored_order y r.stored ≡ true) (sym m.2) p.0)
           in let item : same_item r.item m.0.item ≡ true = subst (λ x. same_item r.item x ≡ true) (sym at) (item_itself r.item)
@@ -157,10 +158,10 @@ module _ (tells : BytesTellIdentifiers) (one other : ViewSeen) (s : Search) (gra
       (settled : (x : Item) → IsCanonItem x → has_item items x ≡ false
       → (is_looked_at one.rows s x ≡ is_looked_at other.rows s x)
       × (is_looked_at one.rows s x ≡ true → stored_on x one.rows ≡ stored_on x other.rows)) where
-    abbrev kept : Attachment → Bool
-    kept r = not (has_entry (fresh other.rows s) (row_entry r))
+    abbrev is_own_row : Attachment → Bool
+    is_own_row r = not (has_entry (fresh other.rows s) (row_entry r))
 
-    pointwise : (r : Attachment) → Has one.rows r → (has_item items r.item && told r) ≡ (is_found one.rows s r && kept r)
+    pointwise : (r : Attachment) → Has one.rows r → (has_item items r.item && is_lacked r) ≡ (is_found one.rows s r && is_own_row r)
     pointwise r h = by (has_item items r.item) refl
       where
         canon_r : IsCanonItem r.item
@@ -169,7 +170,7 @@ module _ (tells : BytesTellIdentifiers) (one other : ViewSeen) (s : Search) (gra
         other_has : has_entry (fresh other.rows s) (row_entry r) ≡ has_met s.result_filter (shown_on other.rows s r.item) r.stored
         other_has = in_other r canon_r
 
-        stays : has_item items r.item ≡ false → is_looked_at one.rows s r.item ≡ true → met r.stored ≡ true
+        stays : has_item items r.item ≡ false → is_looked_at one.rows s r.item ≡ true → is_met r.stored ≡ true
             → has_entry (fresh other.rows s) (row_entry r) ≡ true
         stays f looked m =
             let q = settled r.item canon_r f
@@ -178,26 +179,28 @@ module _ (tells : BytesTellIdentifiers) (one other : ViewSeen) (s : Search) (gra
             = has_map (λ (x : Attachment). x.stored) (filter (λ x. same_item x.item r.item) one.rows) r
             (has_filter (λ x. same_item x.item r.item) one.rows r h (item_itself r.item))
             in let there : Has (stored_on r.item other.rows) r.stored = subst (λ l. Has l r.stored) (q.1 looked) own
-            in other_has ∙ subst (λ b. list_any (λ o. eq_by_cmp stored_order o r.stored && met o) (cond b (stored_on r.item other.rows) [])
+            in other_has ∙ subst
+            (λ b. list_any (λ o. eq_by_cmp stored_order o r.stored && is_met o) (cond b (stored_on r.item other.rows) [])
             ≡ true) (sym seen)
-            (has_any (λ o. eq_by_cmp stored_order o r.stored && met o) (stored_on r.item other.rows) r.stored there
-            (and_from (eq_by_cmp stored_order r.stored r.stored) (met r.stored) (tied_itself r.stored) m))
+            (has_any (λ o. eq_by_cmp stored_order o r.stored && is_met o) (stored_on r.item other.rows) r.stored there
+            (and_from (eq_by_cmp stored_order r.stored r.stored) (is_met r.stored) (tied_itself r.stored) m))
 
-        by : (b : Bool) → has_item items r.item ≡ b → (b && told r) ≡ (is_found one.rows s r && kept r)
+        by : (b : Bool) → has_item items r.item ≡ b → (b && is_lacked r) ≡ (is_found one.rows s r && is_own_row r)
         by true e =
-            and_joined (is_looked_at one.rows s r.item) (met r.stored)
+            and_joined (is_looked_at one.rows s r.item) (is_met r.stored)
             (not (has_met s.result_filter (shown_on other.rows s r.item) r.stored))
-            ∙ ap (λ a. (is_looked_at one.rows s r.item && met r.stored) && not a) (sym other_has)
-        by false e = sym (outside (is_looked_at one.rows s r.item) (met r.stored) (has_entry (fresh other.rows s) (row_entry r)) (stays e))
+            ∙ ap (λ a. (is_looked_at one.rows s r.item && is_met r.stored) && not a) (sym other_has)
+        by false e =
+            sym (outside (is_looked_at one.rows s r.item) (is_met r.stored) (has_entry (fresh other.rows s) (row_entry r)) (stays e))
 
     -- what is left out item by item is the difference of the results
-    pub difference_is : left items ≡ difference (fresh one.rows s) (fresh other.rows s)
+    pub difference_is : entries_left items ≡ difference (fresh one.rows s) (fresh other.rows s)
     difference_is =
         joined items
-        ∙ ap (λ l. map row_entry (filter told l))
+        ∙ ap (λ l. map row_entry (filter is_lacked l))
         (gathers tells one.rows items graph.items (all_items items canon) (grouped one.rows graph.rising) rising)
-        ∙ ap (map row_entry) (filter_twice (λ (r : Attachment). has_item items r.item) told one.rows
-        ∙ filter_alike (λ (r : Attachment). has_item items r.item && told r) (λ r. is_found one.rows s r && kept r) one.rows
-        (has_all (λ (r : Attachment). (has_item items r.item && told r) ≡ (is_found one.rows s r && kept r)) one.rows pointwise)
-        ∙ sym (filter_twice (is_found one.rows s) kept one.rows))
+        ∙ ap (map row_entry) (filter_twice (λ (r : Attachment). has_item items r.item) is_lacked one.rows
+        ∙ filter_alike (λ (r : Attachment). has_item items r.item && is_lacked r) (λ r. is_found one.rows s r && is_own_row r) one.rows
+        (has_all (λ (r : Attachment). (has_item items r.item && is_lacked r) ≡ (is_found one.rows s r && is_own_row r)) one.rows pointwise)
+        ∙ sym (filter_twice (is_found one.rows s) is_own_row one.rows))
         ∙ map_filter row_entry (λ e. not (has_entry (fresh other.rows s) e)) (filter (is_found one.rows s) one.rows)

@@ -153,17 +153,17 @@ passed_over false a f = refl
 passed_over true a f = ap not (f refl)
 
 module _ (filter_by : Option Filter) (x : Item) where
-  abbrev left : List Stored → Stored → Bool
-  left others t = meets_optional filter_by t.element && not (has_met filter_by others t)
+  abbrev is_surplus : List Stored → Stored → Bool
+  is_surplus others t = meets_optional filter_by t.element && not (has_met filter_by others t)
 
-  not_left : (others : List Stored) (t : Stored) → Has others t → left others t ≡ false
+  not_left : (others : List Stored) (t : Stored) → Has others t → is_surplus others t ≡ false
   not_left others t h = passed_over (meets_optional filter_by t.element) (has_met filter_by others t)
       (λ m. has_any (λ o. tie o t && meets_optional filter_by o.element) others t h
       (and_from (tie t t) (meets_optional filter_by t.element) (tie_itself t) m))
 
   all_told : (named these others : List Stored) → ((t : Stored) → Has these t → Aside named t → Has others t)
       → surplus filter_by x (rows_touched_by named these) others ≡ surplus filter_by x these others
-  all_told named these others stays = ap (map (stored_entry x)) (filter_through (ties named) (left others) these
+  all_told named these others stays = ap (map (stored_entry x)) (filter_through (ties named) (is_surplus others) these
       (λ t h n. not_left others t (stays t h (λ r k. fails_at (λ r. tie r t) named r n k))))
 
   module _ (c : ItemChange) (was now : List Stored) (is : now ≡ next_on c.removed c.added was) where
@@ -176,7 +176,7 @@ module _ (filter_by : Option Filter) (x : Item) where
         (λ t h n. was_on c.removed c.added was t n (subst (λ l. Has l t) is h))
 
   pub nothing_told : (these others : List Stored) → these ≡ others → [] ≡ surplus filter_by x these others
-  nothing_told these others e = sym (ap (map (stored_entry x)) (none_left (left others) these
+  nothing_told these others e = sym (ap (map (stored_entry x)) (none_left (is_surplus others) these
       (λ t h. not_left others t (subst (λ l. Has l t) e h))))
 
 shown_whole : (b : Bool) (xs : List Stored) → cond b xs [] ≢ [] → cond b xs [] ≡ xs

@@ -59,14 +59,14 @@ module _ (tells : BytesTellIdentifiers) (rows : List Attachment) (id_at : ℕ �
     (first : IsIdentifier s.start) (start : ℕ) (here : id_at start ≡ Some s.start) (mark : ℕ → Option ℕ)
     (depths : AreDepths (HaveMatchingLink rows id_at links s) (is_terminal_number rows id_at links s) start s.max_depth mark)
     (keys : List ℕ) (keyed : (v k : ℕ) → mark v ≡ Some k → Has keys v) (marked : (v : ℕ) → Has keys v → (k : ℕ) × (mark v ≡ Some k)) where
-  abbrev passed : ℕ → Bool
-  passed v = is_passed rows id_at links s mark v
+  abbrev is_crossed : ℕ → Bool
+  is_crossed v = is_passed rows id_at links s mark v
 
   below_mark : (o : Option ℕ) → is_below s.max_depth o ≡ true → (k : ℕ) × (o ≡ Some k) × (k < s.max_depth)
   below_mark None e = let q : false ≡ true = e in cc
   below_mark (Some k) e = (k, refl, ltb-true k s.max_depth e)
 
-  passed_expanded : (v : ℕ) (a : Identifier) → id_at v ≡ Some a → passed v ≡ true → is_expanded rows s a ≡ true
+  passed_expanded : (v : ℕ) (a : Identifier) → id_at v ≡ Some a → is_crossed v ≡ true → is_expanded rows s a ≡ true
   passed_expanded v a i e =
       let p = and_parts (is_below s.max_depth (mark v)) (not (is_terminal_at s.terminal (id_at v))) e
       in let m = below_mark (mark v) p.0
@@ -78,7 +78,7 @@ module _ (tells : BytesTellIdentifiers) (rows : List Attachment) (id_at : ℕ �
       (walk_expanded tells rows is.graph.items s first w.0 m.0 (subst (λ x. is_terminal s.terminal x ≡ false) (sym same) t) m.2 w.2)
 
   -- the number of an expanded identifier is passed, and is among the keys
-  expanded_passed : (a : Identifier) → IsIdentifier a → is_expanded rows s a ≡ true → (v : ℕ) × (id_at v ≡ Some a) × (passed v ≡ true)
+  expanded_passed : (a : Identifier) → IsIdentifier a → is_expanded rows s a ≡ true → (v : ℕ) × (id_at v ≡ Some a) × (is_crossed v ≡ true)
       × Has keys v
   expanded_passed a i e =
       let x = expanded_walk tells rows is.graph.items s first a i e
@@ -90,7 +90,7 @@ module _ (tells : BytesTellIdentifiers) (rows : List Attachment) (id_at : ℕ �
       in (n.0, n.1, rw (low, t) refl, keyed n.0 m.0 m.1)
 
   -- an item of a link that is brought is looked at
-  linked_looked : (v w : ℕ) (a b : Identifier) (item : Item) → id_at v ≡ Some a → passed v ≡ true
+  linked_looked : (v w : ℕ) (a b : Identifier) (item : Item) → id_at v ≡ Some a → is_crossed v ≡ true
       → is_match rows s.match_links a b ≡ true → pair_of a b ≡ Some item
       → is_looked_at rows s item ≡ true
   linked_looked v w a b item i p m e = elim (pair_parts a b item e) [
@@ -100,7 +100,7 @@ module _ (tells : BytesTellIdentifiers) (rows : List Attachment) (id_at : ℕ �
         in rw n (or_right (is_expanded rows s b) (is_expanded rows s a) (passed_expanded v a i p)))
   ]
 
-  along_looked : (v : ℕ) (seen : LinkSeen) (item : Item) → passed v ≡ true → item_along rows id_at links s mark v seen ≡ Some item
+  along_looked : (v : ℕ) (seen : LinkSeen) (item : Item) → is_crossed v ≡ true → item_along rows id_at links s mark v seen ≡ Some item
       → is_looked_at rows s item ≡ true
   along_looked v seen item p e = by_match (one_meets s.match_links (stored_linked (id_at v) (id_at seen.other) rows)) refl e
     where
@@ -117,16 +117,16 @@ module _ (tells : BytesTellIdentifiers) (rows : List Attachment) (id_at : ℕ �
 
       by_match : (c : Bool) → one_meets s.match_links (stored_linked (id_at v) (id_at seen.other) rows) ≡ c
           → item_where rows id_at links s mark v (cond c (Some seen.other) None) ≡ Some item → is_looked_at rows s item ≡ true
-      by_match true m q = by_lesser (nat_lt seen.other v && passed seen.other) m q
+      by_match true m q = by_lesser (nat_lt seen.other v && is_crossed seen.other) m q
       by_match false m q = absurd (none-some item q)
 
   looked_at : (item : Item) → Has (items_of_numbers rows id_at links s mark keys) item → is_looked_at rows s item ≡ true
   looked_at item h =
       let j = joined_has (items_of_number rows id_at links s mark) keys item h
-      in elim (has_either (item_alone (id_at j.0)) (cond (passed j.0)
+      in elim (has_either (item_alone (id_at j.0)) (cond (is_crossed j.0)
       (filter_map (item_along rows id_at links s mark j.0) (links j.0)) []) item j.2) [
         | inl p ↦ own j.0 (id_at j.0) refl j.1 p
-        | inr p ↦ others j.0 (passed j.0) refl p
+        | inr p ↦ others j.0 (is_crossed j.0) refl p
       ]
     where
       own : (v : ℕ) (o : Option Identifier) → id_at v ≡ o → Has keys v → Has (item_alone o) item → is_looked_at rows s item ≡ true
@@ -141,7 +141,7 @@ module _ (tells : BytesTellIdentifiers) (rows : List Attachment) (id_at : ℕ �
           (subst (λ y. is_reached rows s y ≡ true) same ((reached_by_walks tells rows is.graph.items s first x.0 (is.canon v x.0 x.1)).1
           (m.0, w.0, x.2)))
 
-      others : (v : ℕ) (c : Bool) → passed v ≡ c → Has (cond c (filter_map (item_along rows id_at links s mark v) (links v)) []) item
+      others : (v : ℕ) (c : Bool) → is_crossed v ≡ c → Has (cond c (filter_map (item_along rows id_at links s mark v) (links v)) []) item
           → is_looked_at rows s item ≡ true
       others v true p h = let x = mapped_has (item_along rows id_at links s mark v) (links v) item h in along_looked v x.0 item p x.2
       others v false p h = absurd h
@@ -150,10 +150,10 @@ module _ (tells : BytesTellIdentifiers) (rows : List Attachment) (id_at : ℕ �
   canon_of : (item : Item) → Has (items_of_numbers rows id_at links s mark keys) item → IsCanonItem item
   canon_of item h =
       let j = joined_has (items_of_number rows id_at links s mark) keys item h
-      in elim (has_either (item_alone (id_at j.0)) (cond (passed j.0)
+      in elim (has_either (item_alone (id_at j.0)) (cond (is_crossed j.0)
       (filter_map (item_along rows id_at links s mark j.0) (links j.0)) []) item j.2) [
         | inl p ↦ own j.0 (id_at j.0) refl p
-        | inr p ↦ others j.0 (passed j.0) p
+        | inr p ↦ others j.0 (is_crossed j.0) p
       ]
     where
       own : (v : ℕ) (o : Option Identifier) → id_at v ≡ o → Has (item_alone o) item → IsCanonItem item
@@ -172,7 +172,7 @@ module _ (tells : BytesTellIdentifiers) (rows : List Attachment) (id_at : ℕ �
 
       along : (v : ℕ) (o : Option ℕ) → item_where rows id_at links s mark v o ≡ Some item → IsCanonItem item
       along v None q = absurd (none-some item q)
-      along v (Some w) q = lesser v w (nat_lt w v && passed w) q
+      along v (Some w) q = lesser v w (nat_lt w v && is_crossed w) q
 
       others : (v : ℕ) (c : Bool) → Has (cond c (filter_map (item_along rows id_at links s mark v) (links v)) []) item → IsCanonItem item
       others v true h =
@@ -181,8 +181,8 @@ module _ (tells : BytesTellIdentifiers) (rows : List Attachment) (id_at : ℕ �
       others v false h = absurd h
 
   -- a number that is passed brings the item of a matching link, where no lesser number does
-  brings : (v w : ℕ) (a b : Identifier) (item : Item) → id_at v ≡ Some a → id_at w ≡ Some b → passed v ≡ true
-      → (nat_lt w v && passed w) ≡ false
+  brings : (v w : ℕ) (a b : Identifier) (item : Item) → id_at v ≡ Some a → id_at w ≡ Some b → is_crossed v ≡ true
+      → (nat_lt w v && is_crossed w) ≡ false
       → is_match rows s.match_links a b ≡ true → pair_of a b ≡ Some item → Has keys v
       → Has (items_of_numbers rows id_at links s mark keys) item
   brings v w a b item i j p first m e k =
@@ -198,7 +198,7 @@ module _ (tells : BytesTellIdentifiers) (rows : List Attachment) (id_at : ℕ �
       ∙ ap (λ b. cond b None (pair_at (id_at v) (id_at w))) first
       ∙ ap (λ o. pair_at o (id_at w)) i ∙ ap (λ o. pair_at (Some a) o) j ∙ e
       in has_joined (items_of_number rows id_at links s mark) keys v item k
-      (has_right (item_alone (id_at v)) (cond (passed v) (filter_map (item_along rows id_at links s mark v) (links v)) []) item
+      (has_right (item_alone (id_at v)) (cond (is_crossed v) (filter_map (item_along rows id_at links s mark v) (links v)) []) item
       (subst (λ c. Has (cond c (filter_map (item_along rows id_at links s mark v) (links v)) []) item) (sym p)
       (has_mapped (item_along rows id_at links s mark v) (links v) there.0 item there.1 along)))
 
@@ -208,14 +208,14 @@ module _ (tells : BytesTellIdentifiers) (rows : List Attachment) (id_at : ℕ �
   from_end a b item i j m e x =
       let v = expanded_passed a i x
       in let w = is.linked a b j (some_there s.match_links (stored_between a b rows) m)
-      in elim (cases_Bool (nat_lt w.0 v.0 && passed w.0)) [
+      in elim (cases_Bool (nat_lt w.0 v.0 && is_crossed w.0)) [
         | inr f ↦ brings v.0 w.0 a b item v.1 w.1 v.2 f m e v.3
-        | inl t ↦ let p = and_parts (nat_lt w.0 v.0) (passed w.0) t
-            in let first : (nat_lt v.0 w.0 && passed v.0) ≡ false = ap (λ c. c && passed v.0) (less_one_way w.0 v.0 p.0)
+        | inl t ↦ let p = and_parts (nat_lt w.0 v.0) (is_crossed w.0) t
+            in let first : (nat_lt v.0 w.0 && is_crossed v.0) ≡ false = ap (λ c. c && is_crossed v.0) (less_one_way w.0 v.0 p.0)
             in brings w.0 v.0 b a item w.1 v.1 p.1 first (match_turned rows s.match_links b a ∙ m) (pair_turned b a ∙ e) (key_of w.0 p.1)
       ]
     where
-      key_of : (v : ℕ) → passed v ≡ true → Has keys v
+      key_of : (v : ℕ) → is_crossed v ≡ true → Has keys v
       key_of v p =
           let q = and_parts (is_below s.max_depth (mark v)) (not (is_terminal_at s.terminal (id_at v))) p
           in let m = below_mark (mark v) q.0 in keyed v m.0 m.1
@@ -227,7 +227,8 @@ module _ (tells : BytesTellIdentifiers) (rows : List Attachment) (id_at : ℕ �
       in let n = to_number rows id_at links s is start here r.0 a r.2
       in let m = walk_mark rows id_at links s is start here mark depths n.0 r.0 r.1 n.2
       in has_joined (items_of_number rows id_at links s mark) keys n.0 (One a) (keyed n.0 m.0 m.1)
-      (has_left (item_alone (id_at n.0)) (cond (passed n.0) (filter_map (item_along rows id_at links s mark n.0) (links n.0)) []) (One a)
+      (has_left (item_alone (id_at n.0)) (cond (is_crossed n.0) (filter_map (item_along rows id_at links s mark n.0) (links n.0)) [])
+      (One a)
       (subst (λ o. Has (item_alone o) (One a)) (sym n.1) (inl refl)))
   collects (Pair a b) i e =
       let p = and_parts (is_match rows s.match_links a b) (is_expanded rows s a || is_expanded rows s b) e
@@ -246,10 +247,10 @@ module _ (tells : BytesTellIdentifiers) (rows : List Attachment) (id_at : ℕ �
   }
 
 module _ (by : Option Filter) where
-  abbrev meeting : Attachment → Bool
-  meeting r = meets_optional by r.stored.element
+  abbrev meets_filter : Attachment → Bool
+  meets_filter r = meets_optional by r.stored.element
 
-  one_item : (i : Item) (xs : List Stored) → entries_of by i xs ≡ map row_entry (filter meeting (map (row_at i) xs))
+  one_item : (i : Item) (xs : List Stored) → entries_of by i xs ≡ map row_entry (filter meets_filter (map (row_at i) xs))
   one_item i [] = refl
   one_item i (x ∷ xs) = elim (cases_Bool (meets_optional by x.element)) [
     | inl t ↦ rw t (ap (λ l. stored_entry i x ∷ l) (one_item i xs))
@@ -257,13 +258,13 @@ module _ (by : Option Filter) where
   ]
 
   pub entries_gathered : (rows : List Attachment) (items : List Item)
-      → entries_on by rows items ≡ map row_entry (filter meeting (gathered_rows rows items))
+      → entries_on by rows items ≡ map row_entry (filter meets_filter (gathered_rows rows items))
   entries_gathered rows [] = refl
   entries_gathered rows (i ∷ is) =
       ap (λ l. l ++ entries_on by rows is) (one_item i (stored_on i rows))
-      ∙ ap (λ l. map row_entry (filter meeting (map (row_at i) (stored_on i rows))) ++ l) (entries_gathered rows is)
-      ∙ sym (map-append row_entry (filter meeting (map (row_at i) (stored_on i rows))) (filter meeting (gathered_rows rows is)))
-      ∙ sym (ap (map row_entry) (filter-append meeting (map (row_at i) (stored_on i rows)) (gathered_rows rows is)))
+      ∙ ap (λ l. map row_entry (filter meets_filter (map (row_at i) (stored_on i rows))) ++ l) (entries_gathered rows is)
+      ∙ sym (map-append row_entry (filter meets_filter (map (row_at i) (stored_on i rows))) (filter meets_filter (gathered_rows rows is)))
+      ∙ sym (ap (map row_entry) (filter-append meets_filter (map (row_at i) (stored_on i rows)) (gathered_rows rows is)))
 
 all_of : (P : Attachment → Type 0) (rs : List Attachment) → ((r : Attachment) → Has rs r → P r) → AllByRecursion P rs
 all_of P [] f = tt
@@ -284,16 +285,16 @@ module _ (tells : BytesTellIdentifiers) (rows : List Attachment) (s : Search) (i
       in are.there x (subst (λ y. Has items y) (sym (same_item_is tells x f.0 i.identifiers (are.canon f.0 f.1).identifiers f.2)) f.1))
       (λ e. are.back x i n e)
 
-  all_among : AllByRecursion (λ r. (has_item items r.item && meeting s.result_filter r) ≡ is_found rows s r) rows
-  all_among = all_of (λ r. (has_item items r.item && meeting s.result_filter r) ≡ is_found rows s r) rows
-      (λ r h. ap (λ b. b && meeting s.result_filter r) (among r.item (member (λ r. IsCanonItem r.item) rows graph.items r h)
+  all_among : AllByRecursion (λ r. (has_item items r.item && meets_filter s.result_filter r) ≡ is_found rows s r) rows
+  all_among = all_of (λ r. (has_item items r.item && meets_filter s.result_filter r) ≡ is_found rows s r) rows
+      (λ r h. ap (λ b. b && meets_filter s.result_filter r) (among r.item (member (λ r. IsCanonItem r.item) rows graph.items r h)
       (carries rows r h)))
 
   -- what stands on the items and meets the filter is the result
   pub entries_are : entries_on s.result_filter rows items ≡ fresh rows s
   entries_are =
       entries_gathered s.result_filter rows items
-      ∙ ap (λ l. map row_entry (filter (meeting s.result_filter) l))
+      ∙ ap (λ l. map row_entry (filter (meets_filter s.result_filter) l))
       (gathers tells rows items graph.items (all_items items are.canon) (grouped rows graph.rising) are.rising)
-      ∙ ap (map row_entry) (filter_twice (λ r. has_item items r.item) (meeting s.result_filter) rows
-      ∙ filter_alike (λ r. has_item items r.item && meeting s.result_filter r) (is_found rows s) rows all_among)
+      ∙ ap (map row_entry) (filter_twice (λ r. has_item items r.item) (meets_filter s.result_filter) rows
+      ∙ filter_alike (λ r. has_item items r.item && meets_filter s.result_filter r) (is_found rows s) rows all_among)

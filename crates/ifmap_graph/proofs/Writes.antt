@@ -137,10 +137,10 @@ pub record Write : Type 0 where
   pub wrote : new ≡ with_value slots at later
 
 -- the slot of an item has a shelf, which is written so
-abbrev pub writing : (slots new : Slab Shelf) (es : Entries) → IsPlaced (get slots) es → (item : Item) (at : ℕ)
+abbrev pub write_of : (slots new : Slab Shelf) (es : Entries) → IsPlaced (get slots) es → (item : Item) (at : ℕ)
     → lookup (is_at (item_order item)) es ≡ Some at → (write : Shelf → Shelf)
     → ((s : Shelf) → get slots at ≡ Some s → new ≡ with_value slots at (write s)) → Write
-writing slots new es is item at here write wrote =
+write_of slots new es is item at here write wrote =
     let s = some_is (get slots at) (slot_live (get slots) es item at is here) in record {
       slots = slots;
       new = new;

@@ -22,12 +22,12 @@ use Rattle.ifmap_replies.specs.ifmap_search.declared.searches.Search.{Search}
 use Rattle.ifmap_session.specs.Sessions.{Session, change, is_same_text, session_of_client, session_with_id, without_items}
 
 -- the state where nothing is queued for a session
-abbrev pub emptied : ℕ → State → State
-emptied serial state = record state { sessions = change serial without_items state.sessions }
+abbrev pub empty_queue : ℕ → State → State
+empty_queue serial state = record state { sessions = change serial without_items state.sessions }
 
 -- the state where a client has purged a publisher in a session
-abbrev pub purged : State → List ℕ → Session → State
-purged state publisher s = renew s.serial (overflow (tell (retract (Publisher publisher) state.graph) [] state))
+abbrev pub purge_publisher : State → List ℕ → Session → State
+purge_publisher state publisher s = renew s.serial (overflow (tell (retract (Publisher publisher) state.graph) [] state))
 
 module _ (Holds : State → Type 0) where
   pub in_session_keeps : (state : State) (client : List ℕ) (accept : Session → State × Answer) (o : Option Session)
@@ -53,7 +53,7 @@ module _ (Holds : State → Type 0) where
   search_keeps state asked s renewed w =
       elim (cases_Bool (is_too_big state.graph asked)) [ inl hit ↦ rw hit w | inr miss ↦ rw miss renewed ]
 
-  pub purge_keeps : (state : State) (publisher : List ℕ) (s : Session) → Holds (purged state publisher s) → Holds state
+  pub purge_keeps : (state : State) (publisher : List ℕ) (s : Session) → Holds (purge_publisher state publisher s) → Holds state
       → Holds (purge state publisher s).0
   purge_keeps state publisher s taken w =
       elim (cases_Bool (is_same_text publisher s.client)) [ inl hit ↦ rw hit taken | inr miss ↦ rw miss w ]
@@ -65,13 +65,13 @@ module _ (Holds : State → Type 0) where
     first_keeps true serial state w = w
     first_keeps false serial state w = renewed serial state w
 
-    queue_keeps : (state : State) (again : Bool) (s : Session) (queue : List PollItem) → Holds (emptied s.serial state) → Holds state
+    queue_keeps : (state : State) (again : Bool) (s : Session) (queue : List PollItem) → Holds (empty_queue s.serial state) → Holds state
         → Holds (poll_queue state again s queue).0
     queue_keeps state again s [] empty w = first_keeps again s.serial state w
-    queue_keeps state again s (item ∷ items) empty w = first_keeps again s.serial (emptied s.serial state) empty
+    queue_keeps state again s (item ∷ items) empty w = first_keeps again s.serial (empty_queue s.serial state) empty
 
     pub poll_keeps : (state : State) (client : List ℕ) (again : Bool) (o : Option Session)
-        → ((s : Session) → Holds (emptied s.serial state)) → Holds state → Holds (poll state client again o).0
+        → ((s : Session) → Holds (empty_queue s.serial state)) → Holds state → Holds (poll state client again o).0
     poll_keeps state client true None empty w = w
     poll_keeps state client true (Some s) empty w = in_session_keeps state client (poll_in state true) (Some s)
         (λ t found own. queue_keeps state true t t.queue (empty t) w) w
@@ -83,14 +83,14 @@ module _ (Holds : State → Type 0) where
 -- what holds of a state is kept by all that one ask can change
 pub record IsKeptBy (Holds : State → Type 0) (state : State) (event : Event) (ask : Ask) : Type 0 where
   pub renewed : (serial : ℕ) (one : State) → Holds one → Holds (renew serial one)
-  pub empty : (s : Session) → Holds (emptied s.serial state)
+  pub empty : (s : Session) → Holds (empty_queue s.serial state)
   pub ended : (s : Session) → Holds (end_some (s.serial ∷ []) state)
   pub begun : (limit : Option ℕ) → is_full state event.client ≡ false
       → Holds (begin_session event.client event.random limit (end_former (session_of_client event.client state.sessions) state))
   pub published : (id : List ℕ) (ops : List PublishOp) → ask ≡ Request (the_request.Publish id ops) → (s : Session)
       → session_with_id id state.sessions ≡ Some s → is_same_text s.client event.client ≡ true → Holds (publish state ops s).0
   pub subscribed : (ops : List SubscribeOp) (s : Session) → Holds (subscribe state ops s).0
-  pub taken : (publisher : List ℕ) (s : Session) → Holds (purged state publisher s)
+  pub taken : (publisher : List ℕ) (s : Session) → Holds (purge_publisher state publisher s)
 
 pub step_keeps : (Holds : State → Type 0) (state : State) (event : Event) (ask : Ask) → IsKeptBy Holds state event ask → Holds state
     → Holds (step_ask state event ask).0

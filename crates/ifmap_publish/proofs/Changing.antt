@@ -52,8 +52,8 @@ abbrev pub list_or : Option (List Stored) → List Stored → List Stored
 list_or None list = list
 list_or (Some list) other = list
 
-abbrev pub standing : List Attachment → (Item → Option (List Stored)) → Item → List Stored
-standing rows made x = list_or (made x) (stored_on x rows)
+abbrev pub stored_by : List Attachment → (Item → Option (List Stored)) → Item → List Stored
+stored_by rows made x = list_or (made x) (stored_on x rows)
 
 abbrev AllOver : Item → List Entry → Type 0
 AllOver k es = AllByRecursion (λ y. item_order k y ≡ Less) (keys_of es)
@@ -227,7 +227,7 @@ module _ (rows : List Attachment) where
 
     -- the attachments after the changes, where the lists are what stands on each item
     module _ (after : List Attachment) (es : List Entry) (sound : AreSound es) (up : IsStrictlySortedBy item_order (keys_of es))
-        (applied : (x : Item) → standing rows (λ q. lookup (is_at (item_order q)) es) x ≡ stored_on x after) where
+        (applied : (x : Item) → stored_by rows (λ q. lookup (is_at (item_order q)) es) x ≡ stored_on x after) where
       pub is_after : IsAfter (changes_to rows es) rows after
       is_after x = sym (applied x) ∙ sym (changed x es sound up)
 
@@ -291,30 +291,32 @@ filled_not c (x ∷ xs) ys e f = absurd (not_none x xs e)
 
 module _ (rows : List Attachment) where
   -- the lists that edits mean
-  abbrev pub listed : List (Item × Edit) → List Entry
-  listed es = map (λ e. (e.0, list_by e.1 (stored_on e.0 rows))) es
+  abbrev pub edit_entries : List (Item × Edit) → List Entry
+  edit_entries es = map (λ e. (e.0, list_by e.1 (stored_on e.0 rows))) es
 
-  listed_sound : (es : List (Item × Edit)) → AreEdits rows es → AreSound (listed es)
+  listed_sound : (es : List (Item × Edit)) → AreEdits rows es → AreSound (edit_entries es)
   listed_sound [] all = tt
   listed_sound (e ∷ es) all = (record { canon = all.0.canon; sound = all.0.edit.sound }, listed_sound es all.1)
 
-  keys : (es : List (Item × Edit)) → keys_of (listed es) ≡ keys_of es
+  keys : (es : List (Item × Edit)) → keys_of (edit_entries es) ≡ keys_of es
   keys [] = refl
   keys (e ∷ es) = ap (λ l. e.0 ∷ l) (keys es)
 
   listed_up : (es : List (Item × Edit)) → IsStrictlySortedBy item_order (keys_of es)
-      → IsStrictlySortedBy item_order (keys_of (listed es))
+      → IsStrictlySortedBy item_order (keys_of (edit_entries es))
   listed_up es up = subst (IsStrictlySortedBy item_order) (sym (keys es)) up
 
   -- each item is found with its list
   listed_found : (x : Item) (es : List (Item × Edit))
-      → standing rows (λ q. lookup (is_at (item_order q)) (listed es)) x ≡ working_rows rows (λ q. lookup (is_at (item_order q)) es) x
+      → stored_by rows (λ q. lookup (is_at (item_order q)) (edit_entries es)) x
+      ≡ working_rows rows (λ q. lookup (is_at (item_order q)) es) x
   listed_found x [] = sym (nothing_moved (stored_on x rows))
   listed_found x (e ∷ es) = by (is_at (item_order x) e.0) refl (listed_found x es)
     where
       by : (b : Bool) → is_at (item_order x) e.0 ≡ b
-          → standing rows (λ q. lookup (is_at (item_order q)) (listed es)) x ≡ working_rows rows (λ q. lookup (is_at (item_order q)) es) x
-          → list_or (cond b (Some (list_by e.1 (stored_on e.0 rows))) (lookup (is_at (item_order x)) (listed es))) (stored_on x rows)
+          → stored_by rows (λ q. lookup (is_at (item_order q)) (edit_entries es)) x
+          ≡ working_rows rows (λ q. lookup (is_at (item_order q)) es) x
+          → list_or (cond b (Some (list_by e.1 (stored_on e.0 rows))) (lookup (is_at (item_order x)) (edit_entries es))) (stored_on x rows)
           ≡ list_by (edit_or (cond b (Some e.1) (lookup (is_at (item_order x)) es))) (stored_on x rows)
       by true is rest =
           ap (list_by e.1) (sym (stored_alike e.0 x (items_equiv.symm e.0 x ∙ items_tie x e.0 ∙ is) rows))
@@ -322,7 +324,7 @@ module _ (rows : List Attachment) where
 
   listed_applied : (after : List Attachment) (es : List (Item × Edit))
       → ((x : Item) → working_rows rows (λ q. lookup (is_at (item_order q)) es) x ≡ stored_on x after)
-      → (x : Item) → standing rows (λ q. lookup (is_at (item_order q)) (listed es)) x ≡ stored_on x after
+      → (x : Item) → stored_by rows (λ q. lookup (is_at (item_order q)) (edit_entries es)) x ≡ stored_on x after
   listed_applied after es applied x = listed_found x es ∙ applied x
 
   module _ (graph : IsGraph rows) (whole : AreWhole rows) where
@@ -334,7 +336,7 @@ module _ (rows : List Attachment) where
         let come = added_is stored list e.1 is.edit in
         (λ i. record { item = e.0; removed = gone i; added = come i })
 
-    listed_changes : (es : List (Item × Edit)) → AreEdits rows es → changes_by es ≡ changes_to rows (listed es)
+    listed_changes : (es : List (Item × Edit)) → AreEdits rows es → changes_by es ≡ changes_to rows (edit_entries es)
     listed_changes [] all = refl
     listed_changes (e ∷ es) all =
         let one = change_is e all.0 in
@@ -356,23 +358,23 @@ module _ (rows : List Attachment) where
     -- so their changes lead from the rows to what they make
     module _ (es : List (Item × Edit)) (are : AreEdits rows es) (up : IsStrictlySortedBy item_order (keys_of es))
         (changes : List ItemChange) (made : changes ≡ changes_by es) where
-      changes_are : changes ≡ changes_to rows (listed es)
+      changes_are : changes ≡ changes_to rows (edit_entries es)
       changes_are = made ∙ listed_changes es are
 
       pub edits_fit : Fits rows changes
-      edits_fit = subst (Fits rows) (sym changes_are) (all_fit rows graph whole (listed es) (listed_sound es are) (listed_up es up))
+      edits_fit = subst (Fits rows) (sym changes_are) (all_fit rows graph whole (edit_entries es) (listed_sound es are) (listed_up es up))
 
       pub edits_are_changes : AllByRecursion IsChange changes
-      edits_are_changes = subst (AllByRecursion IsChange) (sym changes_are) (are_changes rows (listed es))
+      edits_are_changes = subst (AllByRecursion IsChange) (sym changes_are) (are_changes rows (edit_entries es))
 
       module _ (after : List Attachment)
           (applied : (x : Item) → working_rows rows (λ q. lookup (is_at (item_order q)) es) x ≡ stored_on x after) where
         pub edits_lead : IsAfter changes rows after
         edits_lead =
             subst (λ told. IsAfter told rows after) (sym changes_are)
-            (is_after rows graph whole after (listed es) (listed_sound es are) (listed_up es up) (listed_applied after es applied))
+            (is_after rows graph whole after (edit_entries es) (listed_sound es are) (listed_up es up) (listed_applied after es applied))
 
         pub edits_are_exact : AreExact rows after changes
         edits_are_exact =
             subst (AreExact rows after) (sym changes_are)
-            (are_exact rows graph whole after (listed es) (listed_sound es are) (listed_up es up) (listed_applied after es applied))
+            (are_exact rows graph whole after (edit_entries es) (listed_sound es are) (listed_up es up) (listed_applied after es applied))

@@ -42,7 +42,7 @@ use Rattle.ifmap_publish.specs.declared.who.Who.TheVariants.{Sessions, Publisher
 use Rattle.ifmap_publish.specs.Retract.{ends_with, is_of, retract, retract_on}
 use Rattle.ifmap_publish.specs.Working.{change_to, changes_to, kept_change}
 use Rattle.ifmap_publish.proofs.Attaching.{sound_filter}
-use Rattle.ifmap_publish.proofs.Changing.{AreSound, all_fit, are_changes, are_exact, is_after, list_or, standing}
+use Rattle.ifmap_publish.proofs.Changing.{AreSound, all_fit, are_changes, are_exact, is_after, list_or, stored_by}
 use Rattle.ifmap_publish.proofs.Entries.{stored_alike}
 use Rattle.ifmap_publish.proofs.Graphs.{sound_on}
 use Rattle.ifmap_publish.proofs.Items.{retract_told}
@@ -197,7 +197,7 @@ full_or_not (s ∷ list) = inr (λ e. cc)
 -- at the end
 module _ (who : Who) (rows : List Attachment) (changes : List ItemChange) (last : Option Item) (before steps : ℕ)
     (so : IsSoFar who rows changes last before steps) (end : NoItem rows last) where
-  all_told : (x : Item) → standing rows (λ q. lookup (is_at (item_order q)) (map (entry_of who rows) so.keys)) x
+  all_told : (x : Item) → stored_by rows (λ q. lookup (is_at (item_order q)) (map (entry_of who rows) so.keys)) x
       ≡ stored_on x (retract who rows)
   all_told x = found_or_not who rows x so.keys ∙ at ∙ sym (retract_told x who rows)
     where

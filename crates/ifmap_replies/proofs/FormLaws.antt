@@ -39,8 +39,8 @@ module _ {X : Type 0} where
 -- ---- one member alone
 
 module _ {X : Type 0} (one : Element → Check X) (parts : List Part) where
-  abbrev chosen : List X → Check X
-  chosen xs = need_some Failure (only_member xs) (λ x. pass x)
+  abbrev need_only_member : List X → Check X
+  need_only_member xs = need_some Failure (only_member xs) (λ x. pass x)
 
   pub refused_member : (error : FormError) → IsCheckRefusal (members_check one parts) error → IsCheckRefusal (only_check one parts) error
   refused_member (Named code) f = inl f

@@ -53,8 +53,8 @@ abbrev no_search : Code → Result Search Code
 no_search code = Err code
 
 module _ {X : Type 0} (field : Field (List ℕ)) (name : Name) (passed : List (List ℕ)) (make : List ℕ → Search → X) where
-  abbrev searching : ElementForm (Both (List ℕ) SearchValues) Identifier
-  searching = record { name = name; passed_over = passed; attributes = table_with field search_attributes; content = start_content }
+  abbrev searching_form : ElementForm (Both (List ℕ) SearchValues) Identifier
+  searching_form = record { name = name; passed_over = passed; attributes = table_with field search_attributes; content = start_content }
 
   abbrev make_from : Both (List ℕ) SearchValues → Identifier → X
   make_from a start = make a.first (search_from start a.others)
@@ -64,7 +64,7 @@ module _ {X : Type 0} (field : Field (List ℕ)) (name : Name) (passed : List (L
 
   module _ (scopes : Scopes) (e : Element) where
     pub refused_text : (error : FormError) → IsCheckRefusal (field_check field (scopes []) e) error
-        → IsCheckRefusal (form_check searching make_from scopes e) error
+        → IsCheckRefusal (form_check searching_form make_from scopes e) error
     refused_text (Named code) f = inl (inl (inl f))
     refused_text NoMemory f = tt
 
@@ -73,12 +73,12 @@ module _ {X : Type 0} (field : Field (List ℕ)) (name : Name) (passed : List (L
       inside values = check_then (start_check (element_parts e)) (λ start. pass (both (both text values) start))
 
       pub found_search : (search : Search) → search_check locals (scopes []) e (Ok search)
-          → form_check searching make_from scopes e (Ok (make text search))
+          → form_check searching_form make_from scopes e (Ok (make text search))
       found_search search (values, g, h) = opened (has_only locals e) refl h
         where
           opened : (b : Bool) → b ≡ has_only locals e
               → need b Failure (check_then (start_check (element_parts e)) (λ start. pass (search_from start values))) (Ok search)
-              → form_check searching make_from scopes e (Ok (make text search))
+              → form_check searching_form make_from scopes e (Ok (make text search))
           opened true is (start, s, same) = (
             both (both text values) start,
             (
@@ -92,7 +92,7 @@ module _ {X : Type 0} (field : Field (List ℕ)) (name : Name) (passed : List (L
           opened false is h = let wrong : one_search search ≡ no_search Failure = h in cc
 
       pub refused_search : (error : FormError) → IsCheckRefusal (search_check locals (scopes []) e) error
-          → IsCheckRefusal (form_check searching make_from scopes e) error
+          → IsCheckRefusal (form_check searching_form make_from scopes e) error
       refused_search NoMemory g = tt
       refused_search (Named code) g = elim g [
         | inl values ↦ inl (inl (inr (text, f, inl values)))
@@ -101,7 +101,7 @@ module _ {X : Type 0} (field : Field (List ℕ)) (name : Name) (passed : List (L
         where
           opened : (values : SearchValues) → search_attributes.reads (scopes []) e (Ok values) → (b : Bool) → b ≡ has_only locals e
               → need b Failure (check_then (start_check (element_parts e)) (λ start. pass (search_from start values))) (Err code)
-              → IsCheckRefusal (form_check searching make_from scopes e) (Named code)
+              → IsCheckRefusal (form_check searching_form make_from scopes e) (Named code)
           opened values v true is h = elim h [
             | inl s ↦ inl (inr (
               both text values,
@@ -113,7 +113,7 @@ module _ {X : Type 0} (field : Field (List ℕ)) (name : Name) (passed : List (L
           opened values v false is h =
               let same : no_search code ≡ no_search Failure = h in
               let one : code ≡ Failure = cc in
-              subst (λ (c : Code). IsCheckRefusal (form_check searching make_from scopes e) (Named c)) (sym one)
+              subst (λ (c : Code). IsCheckRefusal (form_check searching_form make_from scopes e) (Named c)) (sym one)
               (inl (inr (
                 both text values,
                 (text, f, (values, v, refl)),

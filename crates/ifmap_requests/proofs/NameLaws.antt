@@ -40,28 +40,28 @@ use Rattle.ifmap_requests.proofs.FormLaws.{by_form, past_form}
 abbrev op : Operation → Option Operation
 op o = Some o
 
-abbrev chosen : Bool → Bool → Bool → Option Operation
-chosen a b c = cond a (op operation.Update) (cond b (op operation.Notify) (cond c (op operation.Delete) None))
+abbrev choose_operation : Bool → Bool → Bool → Option Operation
+choose_operation a b c = cond a (op operation.Update) (cond b (op operation.Notify) (cond c (op operation.Delete) None))
 
-is_update : (a b c : Bool) → chosen a b c ≡ op operation.Update → a ≡ true
+is_update : (a b c : Bool) → choose_operation a b c ≡ op operation.Update → a ≡ true
 is_update true b c h = refl
 is_update false true c h = cc
 is_update false false true h = cc
 is_update false false false h = cc
 
-is_notify : (a b c : Bool) → chosen a b c ≡ op operation.Notify → (a ≡ false) × (b ≡ true)
+is_notify : (a b c : Bool) → choose_operation a b c ≡ op operation.Notify → (a ≡ false) × (b ≡ true)
 is_notify true b c h = cc
 is_notify false true c h = (refl, refl)
 is_notify false false true h = cc
 is_notify false false false h = cc
 
-is_delete : (a b c : Bool) → chosen a b c ≡ op operation.Delete → (a ≡ false) × (b ≡ false) × (c ≡ true)
+is_delete : (a b c : Bool) → choose_operation a b c ≡ op operation.Delete → (a ≡ false) × (b ≡ false) × (c ≡ true)
 is_delete true b c h = cc
 is_delete false true c h = cc
 is_delete false false true h = (refl, refl, refl)
 is_delete false false false h = cc
 
-is_none : (a b c : Bool) → chosen a b c ≡ None → (a ≡ false) × (b ≡ false) × (c ≡ false)
+is_none : (a b c : Bool) → choose_operation a b c ≡ None → (a ≡ false) × (b ≡ false) × (c ≡ false)
 is_none true b c h = cc
 is_none false true c h = cc
 is_none false false true h = cc

@@ -90,12 +90,12 @@ stands_itself R f xs =
     at_each_same (λ _. StaysRelated R) (λ i x. record { serial = refl; name = refl; subscription = f x.subscription }) xs
 
 module _ (old new : ViewSeen) (notes : List Note) (skipped : List Bool) (xs : List Standing) (begun : ℕ) where
-  abbrev pub told : Bool × machine.Standing → News
-  told p = news_where old.rows new.rows notes p.0 p.1
+  abbrev pub news_of_pair : Bool × machine.Standing → News
+  news_of_pair p = news_where old.rows new.rows notes p.0 p.1
 
   -- the first n are told
   pub record Stage (n : ℕ) (news : List News) (ways : List (Option Way)) (now : List Standing) (steps : ℕ) : Type 0 where
-    pub says : news ≡ map told (take n (zip skipped (map standing_of xs)))
+    pub says : news ≡ map news_of_pair (take n (zip skipped (map standing_of xs)))
     pub told_count : length news ≡ n
     pub count : length ways ≡ n
     pub lead : LeadBack xs ways now
@@ -177,10 +177,10 @@ module _ {old new : ViewSeen} {notes : List Note} {skipped : List Bool} {xs : Li
       (is : one ≡ news_where old.rows new.rows notes skip (standing_of x)) (back : StaysRelated (LeadsBackWhere (Some way)) x y)
       (stays : skip ≡ true → y ≡ x) (keeps : skip ≡ false → IsUpToDate new y.subscription) where
     news_next : news ++ one ∷ []
-        ≡ map (told old new notes skipped xs begun) (take (n + 1) (zip skipped (map standing_of xs)))
+        ≡ map (news_of_pair old new notes skipped xs begun) (take (n + 1) (zip skipped (map standing_of xs)))
     news_next =
         let list = zip skipped (map standing_of xs)
-        in let tells = told old new notes skipped xs begun
+        in let tells = news_of_pair old new notes skipped xs begun
         in let on : take (n + 1) list ≡ take n list ++ (skip, standing_of x) ∷ [] = ap (λ k. take k list) (add-one n)
         ∙ zip_more skipped (map standing_of xs) n skip (standing_of x) flag (mapped_there standing_of xs n x before)
         in ap (λ l. l ++ one ∷ []) s.says ∙ ap (λ o. map tells (take n list) ++ o ∷ []) is
@@ -244,7 +244,7 @@ module _ {old new : ViewSeen} {notes : List Note} {skipped : List Bool} {xs : Li
     {ways : List (Option Way)} {now : List Standing} {steps : ℕ} (s : Stage old new notes skipped xs begun n news ways now steps)
     (past : length skipped ≤ n) where
   pub news_end : news ≡ news_of_each old.rows new.rows notes skipped (map standing_of xs)
-  news_end = s.says ∙ ap (map (told old new notes skipped xs begun)) (take_all n (zip skipped (map standing_of xs))
+  news_end = s.says ∙ ap (map (news_of_pair old new notes skipped xs begun)) (take_all n (zip skipped (map standing_of xs))
       (omega (arith, past, length-zip skipped (map standing_of xs))))
 
   pub kept_end : (i : ℕ) (y : Standing) → slice_get now i ≡ Some y → slice_get skipped i ≡ Some false → IsUpToDate new y.subscription

@@ -99,20 +99,20 @@ module _ {serial : ℕ} {t : Told} {old mid : Readying} {name : List ℕ} {now :
     }
 
 -- a renaming that ends a subscription
-abbrev ending : List ℕ → Renaming
-ending name = record { name = name; item = None; standing = None }
+abbrev end_name : List ℕ → Renaming
+end_name name = record { name = name; item = None; standing = None }
 
 pub stand_none : (serial : ℕ) (p : Parts) (made : List Renaming) (name : List ℕ) → CanStand serial p made
-    → CanStand serial p (made ++ ending name ∷ [])
+    → CanStand serial p (made ++ end_name name ∷ [])
 stand_none serial p made name c =
-    let same : starts_by (made ++ ending name ∷ []) ≡ starts_by made = begun_more made (ending name) ∙ append-nil (starts_by made) in
+    let same : starts_by (made ++ end_name name ∷ []) ≡ starts_by made = begun_more made (end_name name) ∙ append-nil (starts_by made) in
     record {
-      session = both_all (IsOfSession serial) made (ending name ∷ []) c.session (tt, tt);
+      session = both_all (IsOfSession serial) made (end_name name ∷ []) c.session (tt, tt);
       steady = subst (λ xs. IsSteady p.graph (p.standing.items ++ xs)) (sym same) c.steady;
       kept = subst (λ xs. AllByRecursion (λ (x : Standing). IsUpToDate (sight_now p.graph) x.subscription) xs) (sym same) c.kept;
     }
 
-pub ending_drops : (serial : ℕ) (name : List ℕ) (u : Told) → drop_name serial name u ≡ rename serial (ending name) u
+pub ending_drops : (serial : ℕ) (name : List ℕ) (u : Told) → drop_name serial name u ≡ rename serial (end_name name) u
 ending_drops serial name u =
     ap (λ q. told_with q) (sym (append-nil (drop_name serial name u).queue))
   where

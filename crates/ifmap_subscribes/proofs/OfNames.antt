@@ -45,17 +45,17 @@ same_order x y e =
     (exact_unsigned x.serial y.serial both.0, same_texts x.name y.name both.1)
 
 module _ (serial : ℕ) (name : List ℕ) where
-  abbrev dropped : List Standing → List Standing
-  dropped xs = filter (λ x. not (is_of_name serial name x)) xs
+  abbrev others_of : List Standing → List Standing
+  others_of xs = filter (λ x. not (is_of_name serial name x)) xs
 
   -- the subscription of a name goes: those of other names stay, and the session has one less where there was one
   pub others_stand : (other : List ℕ) (xs : List Standing) → other ≢ name
-      → list_any (is_of_name serial other) (dropped xs) ≡ list_any (is_of_name serial other) xs
+      → list_any (is_of_name serial other) (others_of xs) ≡ list_any (is_of_name serial other) xs
   others_stand other xs apart =
       any_within (is_of_name serial other) (λ x. not (is_of_name serial name x)) (λ x h. not_of_other serial name other x apart h) xs
 
   pub one_fewer : (xs : List Standing) → IsStrictlySortedBy standing_order xs
-      → length (standing_in serial (dropped xs)) + cond (list_any (is_of_name serial name) xs) 1 0 ≡ length (standing_in serial xs)
+      → length (standing_in serial (others_of xs)) + cond (list_any (is_of_name serial name) xs) 1 0 ≡ length (standing_in serial xs)
   one_fewer xs up =
       length_without (is_of_name serial name) (λ x. x.serial == serial)
       (λ x h. (and_parts (x.serial == serial) (is_same_text x.name name) h).0) standing_order
@@ -75,14 +75,14 @@ module _ (serial : ℕ) (name : List ℕ) where
         (λ y h e. apart (sym (of_name serial other y h).1 ∙ (same_order y x e).1 ∙ n))
 
     pub one_more : (xs : List Standing)
-        → length (standing_in serial (put standing_order x (dropped xs))) ≡ length (standing_in serial (dropped xs)) + 1
+        → length (standing_in serial (put standing_order x (others_of xs))) ≡ length (standing_in serial (others_of xs)) + 1
     one_more xs =
-        length_put standing_order x (λ y. y.serial == serial) (dropped xs)
+        length_put standing_order x (λ y. y.serial == serial) (others_of xs)
         (all_weaker (λ y. not (is_of_name serial name y) ≡ true) (λ y. standing_order y x ≢ Equal)
         (λ y h e. both_ways (not (is_of_name serial name y)) (ap not (is_of serial name y
         ((same_order y x e).0 ∙ s) ((same_order y x e).1 ∙ n))) h)
-        (dropped xs) (filter_passes (λ y. not (is_of_name serial name y)) xs))
-        ∙ ap (λ b. length (standing_in serial (dropped xs)) + cond b 1 0) (eq-eqb x.serial serial s)
+        (others_of xs) (filter_passes (λ y. not (is_of_name serial name y)) xs))
+        ∙ ap (λ b. length (standing_in serial (others_of xs)) + cond b 1 0) (eq-eqb x.serial serial s)
 
 -- an item tells of one name at most
 pub named_once : (a b : List ℕ) (item : PollItem) → is_named a item ≡ true → is_named b item ≡ true → a ≡ b

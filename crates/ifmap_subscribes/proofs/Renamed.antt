@@ -49,38 +49,38 @@ begun_more rs r =
 
 -- the subscriptions after a renaming
 module _ (serial : ℕ) (name : List ℕ) where
-  abbrev dropped : List machine.Standing → List machine.Standing
-  dropped xs = filter (λ x. not (is_of_name serial name x)) xs
+  abbrev others_of : List machine.Standing → List machine.Standing
+  others_of xs = filter (λ x. not (is_of_name serial name x)) xs
 
   abbrev IsOwned : Option Standing → Type 0
   IsOwned o = AllByRecursion (λ (x : Standing). (x.serial ≡ serial) × (x.name ≡ name)) (option_to_list o)
 
   stands_after : (o : Option Standing) → IsOwned o → (xs : List machine.Standing)
-      → is_some o ≡ list_any (is_of_name serial name) (stand_where o (dropped xs))
+      → is_some o ≡ list_any (is_of_name serial name) (stand_where o (others_of xs))
   stands_after None h xs = sym (none_of_others (is_of_name serial name) xs)
-  stands_after (Some x) h xs = sym (put_stands serial name (standing_of x) h.0.0 h.0.1 (dropped xs))
+  stands_after (Some x) h xs = sym (put_stands serial name (standing_of x) h.0.0 h.0.1 (others_of xs))
 
   others_after : (o : Option Standing) → IsOwned o → (other : List ℕ) (xs : List machine.Standing) → other ≢ name
-      → list_any (is_of_name serial other) (stand_where o (dropped xs)) ≡ list_any (is_of_name serial other) xs
+      → list_any (is_of_name serial other) (stand_where o (others_of xs)) ≡ list_any (is_of_name serial other) xs
   others_after None h other xs apart = others_stand serial name other xs apart
   others_after (Some x) h other xs apart =
-      others_beside serial name (standing_of x) h.0.0 h.0.1 other (dropped xs) apart ∙ others_stand serial name other xs apart
+      others_beside serial name (standing_of x) h.0.0 h.0.1 other (others_of xs) apart ∙ others_stand serial name other xs apart
 
   more_after : (o : Option Standing) → IsOwned o → (xs : List machine.Standing)
-      → length (standing_in serial (stand_where o (dropped xs))) ≡ length (standing_in serial (dropped xs)) + length (option_to_list o)
+      → length (standing_in serial (stand_where o (others_of xs))) ≡ length (standing_in serial (others_of xs)) + length (option_to_list o)
   more_after None h xs = omega arith
   more_after (Some x) h xs = one_more serial name (standing_of x) h.0.0 h.0.1 xs
 
   count_after : (o : Option Standing) → IsOwned o → (xs : List machine.Standing) → IsStrictlySortedBy standing_order xs
-      → length (standing_in serial (stand_where o (dropped xs))) + cond (list_any (is_of_name serial name) xs) 1 0
+      → length (standing_in serial (stand_where o (others_of xs))) + cond (list_any (is_of_name serial name) xs) 1 0
       ≡ length (standing_in serial xs) + length (option_to_list o)
   count_after o h xs up = omega (arith, more_after o h xs, one_fewer serial name xs up)
 
   rising_after : (o : Option Standing) (xs : List machine.Standing) → IsStrictlySortedBy standing_order xs
-      → IsStrictlySortedBy standing_order (stand_where o (dropped xs))
+      → IsStrictlySortedBy standing_order (stand_where o (others_of xs))
   rising_after None xs up = IsStrictlySortedBy-filter standing_order (λ x. not (is_of_name serial name x)) xs up
   rising_after (Some x) xs up =
-      put_sorted machine.Standing standing_order standing_total (standing_of x) (dropped xs)
+      put_sorted machine.Standing standing_order standing_total (standing_of x) (others_of xs)
       (IsStrictlySortedBy-filter standing_order (λ y. not (is_of_name serial name y)) xs up)
 
 -- the queue after a renaming

@@ -81,23 +81,23 @@ has_with (e ∷ es) set z r (inr k) = has_with es (put entry_order e set) z (tai
 
 module _ (a b : List Entry) (apart : (x y : Entry) → Has a x → Has b y → same_entry x y ≡ true → x ≡ y)
     (rises : IsStrictlySortedBy entry_order a) (next : IsStrictlySortedBy entry_order b) where
-  abbrev gone : List Entry
-  gone = difference a b
+  abbrev entries_gone : List Entry
+  entries_gone = difference a b
 
   abbrev come : List Entry
   come = difference b a
 
   abbrev rest : List Entry
-  rest = difference a gone
+  rest = difference a entries_gone
 
   there : (z : Entry) → Has (with_entries come rest) z → Has b z
   there z h = elim (with_has come rest z h) [
     | inl k ↦ (filter_has (λ e. not (has_entry a e)) b z k).0
-    | inr k ↦ let f = filter_has (λ e. not (has_entry gone e)) a z k
+    | inr k ↦ let f = filter_has (λ e. not (has_entry entries_gone e)) a z k
         in elim (cases_Bool (has_entry b z)) [
           | inl t ↦ let y = any_has (same_entry z) b t in subst (λ x. Has b x) (sym (apart z y.0 f.0 y.1 y.2)) y.1
-          | inr t ↦ absurd (not_of (has_entry gone z) f.1
-              (has_any (same_entry z) gone z (has_filter (λ e. not (has_entry b e)) a z f.0 (ap not t)) (same_entry_itself z)))
+          | inr t ↦ absurd (not_of (has_entry entries_gone z) f.1
+              (has_any (same_entry z) entries_gone z (has_filter (λ e. not (has_entry b e)) a z f.0 (ap not t)) (same_entry_itself z)))
         ]
   ]
 
@@ -107,9 +107,9 @@ module _ (a b : List Entry) (apart : (x y : Entry) → Has a x → Has b y → s
         in let same : x.0 ≡ z = apart x.0 z x.1 h (same_turned x.0 z ∙ x.2)
         in let here : Has a z = subst (λ y. Has a y) same x.1
         in has_kept come rest z
-        (has_filter (λ e. not (has_entry gone e)) a z here
-        (elim (cases_Bool (has_entry gone z)) [
-          | inl u ↦ let w = any_has (same_entry z) gone u
+        (has_filter (λ e. not (has_entry entries_gone e)) a z here
+        (elim (cases_Bool (has_entry entries_gone z)) [
+          | inl u ↦ let w = any_has (same_entry z) entries_gone u
               in let f = filter_has (λ e. not (has_entry b e)) a w.0 w.1
               in absurd (not_of (has_entry b w.0) f.1 (has_any (same_entry w.0) b z h (same_turned w.0 z ∙ w.2)))
           | inr u ↦ ap not u
@@ -126,7 +126,7 @@ module _ (a b : List Entry) (apart : (x y : Entry) → Has a x → Has b y → s
 
   pub next_made : with_entries come rest ≡ b
   next_made = rising_same entry_order entries_total (with_entries come rest) b
-      (with_rises come rest (IsStrictlySortedBy-filter entry_order (λ e. not (has_entry gone e)) a rises)) next there back
+      (with_rises come rest (IsStrictlySortedBy-filter entry_order (λ e. not (has_entry entries_gone e)) a rises)) next there back
 
 -- nothing is taken out
 pub difference_none : (entries : List Entry) → difference entries [] ≡ entries

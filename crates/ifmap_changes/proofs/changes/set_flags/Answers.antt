@@ -1,6 +1,6 @@
 use Rattle.std.proofs.Common.{◌≡◌, ◌<◌, ◌+◌, suc, Some, refl, length, slice_get, sym, ◌∙◌, ap, arith}
 use Rattle.std.proofs.lemmas.Option.{slice_get_read}
-use Rattle.ifmap_changes.proofs.Marking.{all_marked, as_many_first, flagged, gone_first, is_of, marks_first}
+use Rattle.ifmap_changes.proofs.Marking.{all_marked, as_many_first, flag_at, gone_first, is_of, marks_first}
 use Rattle.ifmap_changes.proofs.changes.set_flags.Goals as goal
 
 pub set_flag-requires : goal.set_flag-requires
@@ -23,8 +23,8 @@ loop-at-preserved c =
     let marks : c.is_among.result ≡ is_of c.args.serials.now x =
     c.is_among.ensures ∙ ap (is_of c.args.serials.now) (sym c.index-standing-at.is) in
     let next : suc at ≡ at + 1 = omega arith in
-    c.set_flag.ensures ∙ ap (λ b. flagged b at c.loop-at.gone.items) marks
-    ∙ ap (flagged (is_of c.args.serials.now x) at) c.loop-at.invariant
+    c.set_flag.ensures ∙ ap (λ b. flag_at b at c.loop-at.gone.items) marks
+    ∙ ap (flag_at (is_of c.args.serials.now x) at) c.loop-at.invariant
     ∙ marks_first c.args.serials.now at c.args.gone.now.items xs x c.requires.flags there
     ∙ ap (λ n. gone_first c.args.serials.now n c.args.gone.now.items xs) next
 

@@ -6,7 +6,7 @@ use Rattle.slab.specs.Slab.{get}
 use Rattle.ifmap_ident.specs.SameLaws.{items_total}
 use Rattle.ifmap_graph.specs.Sides.{list_next, list_now}
 use Rattle.ifmap_graph.proofs.Staying.{ends_stay, waits_stay}
-use Rattle.ifmap_graph.proofs.Writes.{Write, comes, drafts_kept, drafts_left, shelved, side_stays, stood, writing}
+use Rattle.ifmap_graph.proofs.Writes.{Write, comes, drafts_kept, drafts_left, shelved, side_stays, stood, write_of}
 use Rattle.ifmap_graph.proofs.shelves.Shelves.accept.Goals as goal
 
 pub index-at-requires : goal.index-at-requires
@@ -19,7 +19,7 @@ accept_at-requires c =
 
 pub returns : goal.returns
 returns c =
-    let w : Write = writing c.args.self.now.slots c.accept_at.new.slots c.args.self.now.places.entries c.requires.shelved c.args.item.now
+    let w : Write = write_of c.args.self.now.slots c.accept_at.new.slots c.args.self.now.places.entries c.requires.shelved c.args.item.now
     c.index-at.result.now c.index-at.ensures (λ s. record s { stored = record { now = list_next s.stored; draft = None } })
     c.accept_at.ensures.slots
     in record {

@@ -7,7 +7,7 @@ use Rattle.ifmap_ident.specs.SameLaws.{items_total}
 use Rattle.ifmap_graph.specs.declared.shelves.Shelf.{Shelf}
 use Rattle.ifmap_graph.specs.Sides.{list_next, list_now}
 use Rattle.ifmap_graph.proofs.Staying.{bare_stays, ends_stay, waits_stay}
-use Rattle.ifmap_graph.proofs.Writes.{Write, shelved, shows, stood, writing}
+use Rattle.ifmap_graph.proofs.Writes.{Write, shelved, shows, stood, write_of}
 use Rattle.ifmap_graph.proofs.shelves.Shelves.exchange.Goals as goal
 
 pub index-at-requires : goal.index-at-requires
@@ -20,7 +20,7 @@ exchange_at-requires c =
 
 pub returns : goal.returns
 returns c =
-    let w : Write = writing c.args.self.now.slots c.exchange_at.new.slots c.args.self.now.places.entries c.requires.shelved c.args.item.now
+    let w : Write = write_of c.args.self.now.slots c.exchange_at.new.slots c.args.self.now.places.entries c.requires.shelved c.args.item.now
     c.index-at.result.now c.index-at.ensures (λ s. record s { stored = record s.stored { now = c.args.list.now } })
     c.exchange_at.ensures.slots
     in let same : w.at ≡ c.requires.drafted.0 = same_Some _ _ (sym w.here ∙ c.requires.drafted.2)

@@ -3,7 +3,7 @@ use Rattle.slab.specs.Slab.{get}
 use Rattle.ifmap_graph.specs.Sides.{list_next, list_now}
 use Rattle.ifmap_graph.proofs.Proposing.{draft_there, drafts_come, drafts_there}
 use Rattle.ifmap_graph.proofs.Staying.{ends_stay, waits_stay}
-use Rattle.ifmap_graph.proofs.Writes.{Write, shelved, shows, side_stays, slot_live, writing}
+use Rattle.ifmap_graph.proofs.Writes.{Write, shelved, shows, side_stays, slot_live, write_of}
 use Rattle.ifmap_graph.proofs.shelves.Shelves.propose.Goals as goal
 
 pub propose_at-requires : goal.propose_at-requires
@@ -13,7 +13,7 @@ propose_at-requires c =
 
 pub returns : goal.returns
 returns c =
-    let w : Write = writing c.args.self.now.slots c.propose_at.new.slots c.args.self.now.places.entries c.requires.shelved c.args.item.now
+    let w : Write = write_of c.args.self.now.slots c.propose_at.new.slots c.args.self.now.places.entries c.requires.shelved c.args.item.now
     c.index-at.result.now c.index-at.ensures (λ s. record s { stored = record s.stored { draft = Some c.args.list.value } })
     c.propose_at.ensures
     in record {

@@ -5,7 +5,7 @@ use Rattle.slab.specs.Slab.{get}
 use Rattle.ifmap_graph.specs.Sides.{list_next, list_now}
 use Rattle.ifmap_graph.specs.Waits.{waits_at, waits_of, waits_there}
 use Rattle.ifmap_graph.proofs.Staying.{bare_stays, ends_stay}
-use Rattle.ifmap_graph.proofs.Writes.{Write, shelved, side_stays, slot_live, waits_had, waits_has, waits_others, writing}
+use Rattle.ifmap_graph.proofs.Writes.{Write, shelved, side_stays, slot_live, waits_had, waits_has, waits_others, write_of}
 use Rattle.ifmap_graph.proofs.Waited.{lowered}
 use Rattle.ifmap_graph.proofs.shelves.Shelves.unwait.Goals as goal
 use Rattle.ifmap_lemmas.specs.Options.{some_is}
@@ -22,7 +22,7 @@ unwait_at-requires c =
 
 pub returns : goal.returns
 returns c =
-    let w : Write = writing c.args.self.now.slots c.unwait_at.new.slots c.args.self.now.places.entries c.requires.shelved c.args.item.now
+    let w : Write = write_of c.args.self.now.slots c.unwait_at.new.slots c.args.self.now.places.entries c.requires.shelved c.args.item.now
     c.index-at.result.now c.index-at.ensures (λ s. record s { waits = s.waits - 1 }) c.unwait_at.ensures.slots
     in let tie = ap is_eq (tied_itself items_total c.args.item.now)
     in record {

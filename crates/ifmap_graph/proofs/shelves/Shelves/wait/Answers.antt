@@ -5,7 +5,7 @@ use Rattle.ifmap_graph.specs.Sides.{list_next, list_now}
 use Rattle.ifmap_graph.specs.Waits.{waits_at, waits_of, waits_there}
 use Rattle.ifmap_graph.proofs.Proposing.{drafts_from, drafts_to}
 use Rattle.ifmap_graph.proofs.Staying.{ends_stay}
-use Rattle.ifmap_graph.proofs.Writes.{Write, shelved, side_stays, slot_live, waits_had, waits_has, waits_others, writing}
+use Rattle.ifmap_graph.proofs.Writes.{Write, shelved, side_stays, slot_live, waits_had, waits_has, waits_others, write_of}
 use Rattle.ifmap_graph.proofs.Waited.{raised}
 use Rattle.ifmap_graph.proofs.shelves.Shelves.wait.Goals as goal
 use Rattle.ifmap_lemmas.specs.Options.{some_is}
@@ -21,7 +21,7 @@ wait_at-requires c =
 
 pub returns : goal.returns
 returns c =
-    let w : Write = writing c.args.self.now.slots c.wait_at.new.slots c.args.self.now.places.entries c.requires.shelved c.args.item.now
+    let w : Write = write_of c.args.self.now.slots c.wait_at.new.slots c.args.self.now.places.entries c.requires.shelved c.args.item.now
     c.index-at.result.now c.index-at.ensures (λ s. record s { waits = s.waits + 1 }) c.wait_at.ensures
     in record {
       shelved = shelved w;
