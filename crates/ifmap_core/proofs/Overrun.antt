@@ -26,7 +26,7 @@ use Rattle.ifmap_subscribes.specs.ifmap_machine.State as machine
 use Rattle.ifmap_subscribes.specs.ifmap_machine.State.{State, standing_order}
 use Rattle.ifmap_subscribes.specs.ifmap_machine.Step.{with_told}
 use Rattle.ifmap_subscribes.specs.ifmap_machine.Subscribing.{Told, drop_name, is_of_name}
-use Rattle.ifmap_subscribes.specs.ifmap_machine.Telling.{is_overfull, is_overrun, limit_note, overflow, overflow_session}
+use Rattle.ifmap_subscribes.specs.ifmap_machine.Telling.{is_overfull, is_overrun, limit_note, overflow, overflow_session, with_queue}
 use Rattle.ifmap_subscribes.specs.ifmap_plans.Placing.{put}
 use Rattle.ifmap_session.specs.ifmap_search.declared.results.PollItem.{PollItem}
 use Rattle.ifmap_session.specs.ifmap_search.declared.results.PollItem.TheVariants as the_item
@@ -65,34 +65,31 @@ no_overflow state h =
 
 -- ---- one session has another queue
 
-abbrev requeued : List PollItem → Session → Session
-requeued q s = record s { queue = q }
-
 abbrev IsOne : ℕ → Session → Session → Type 0
 IsOne n s x = (x.serial == n) ≡ true → x ≡ s
 
 pub changed_within : (n : ℕ) (q : List PollItem) (s : Session) → queue_size q ≤ s.limit → (live : List Session)
-    → AllByRecursion (IsOne n s) live → AllByRecursion IsFit live → AllByRecursion IsFit (change n (requeued q) live)
+    → AllByRecursion (IsOne n s) live → AllByRecursion IsFit live → AllByRecursion IsFit (change n (with_queue q) live)
 changed_within n q s few [] one h = tt
 changed_within n q s few (x ∷ live) one h =
     elim (cases_Bool (x.serial == n)) [
       | inl hit ↦
           let limit : x.limit ≡ s.limit = ap (λ (t : Session). t.limit) (one.0 hit) in
-          let fits : is_overfull (requeued q x) ≡ false = grind (arith, nat_tests, few, limit) in
+          let fits : is_overfull (with_queue q x) ≡ false = grind (arith, nat_tests, few, limit) in
           rw hit (fits, changed_within n q s few live one.1 h.1)
       | inr miss ↦ rw miss (h.0, changed_within n q s few live one.1 h.1)
     ]
 
 over_sessions : (n : ℕ) (q : List PollItem) (s : Session) → s.limit < queue_size q → (live : List Session)
     → AllByRecursion (IsOne n s) live → AllByRecursion IsFit live
-    → map overflow_session (change n (requeued q) live)
+    → map overflow_session (change n (with_queue q) live)
     ≡ change n (λ (t : Session). with_error (the_item.Error None PollResultsTooBig (limit_note (queue_size q) t.limit)) t) live
 over_sessions n q s many [] one h = refl
 over_sessions n q s many (x ∷ live) one h =
     elim (cases_Bool (x.serial == n)) [
       | inl hit ↦
           let limit : x.limit ≡ s.limit = ap (λ (t : Session). t.limit) (one.0 hit) in
-          let full : is_overfull (requeued q x) ≡ true = grind (arith, nat_tests, many, limit) in
+          let full : is_overfull (with_queue q x) ≡ true = grind (arith, nat_tests, many, limit) in
           rw (hit, full) (ap (λ t. with_error (the_item.Error None PollResultsTooBig (limit_note (queue_size q) x.limit)) x ∷ t)
           (over_sessions n q s many live one.1 h.1))
       | inr miss ↦ rw (miss, h.0) (ap (λ t. x ∷ t) (over_sessions n q s many live one.1 h.1))
@@ -101,13 +98,13 @@ over_sessions n q s many (x ∷ live) one h =
 -- of which a subscription is overrun
 over_standing : (n : ℕ) (q : List PollItem) (s : Session) → s.limit < queue_size q → (x : machine.Standing) (live : List Session)
     → AllByRecursion (IsOne n s) live → AllByRecursion IsFit live → session_with_serial n live ≡ Some s
-    → is_overrun (change n (requeued q) live) x ≡ (n == x.serial)
+    → is_overrun (change n (with_queue q) live) x ≡ (n == x.serial)
 over_standing n q s many x [] one h found = cc
 over_standing n q s many x (y ∷ live) one h found =
     elim (cases_Bool (y.serial == n)) [
       | inl hit ↦
           let limit : y.limit ≡ s.limit = ap (λ (t : Session). t.limit) (one.0 hit) in
-          let full : is_overfull (requeued q y) ≡ true = grind (arith, nat_tests, many, limit) in
+          let full : is_overfull (with_queue q y) ≡ true = grind (arith, nat_tests, many, limit) in
           let same : (y.serial == x.serial) ≡ (n == x.serial) = ap (λ (m : ℕ). m == x.serial) (eqb-true y.serial n hit) in
           elim (cases_Bool (n == x.serial)) [
             | inl own ↦ rw (hit, full, same, own) refl
@@ -118,7 +115,7 @@ over_standing n q s many x (y ∷ live) one h found =
           rw (miss, none) (over_standing n q s many x live one.1 h.1 (rw miss at found))
     ]
   where
-    never : (n == x.serial) ≡ false → (ys : List Session) → AllByRecursion IsFit ys → is_overrun (change n (requeued q) ys) x ≡ false
+    never : (n == x.serial) ≡ false → (ys : List Session) → AllByRecursion IsFit ys → is_overrun (change n (with_queue q) ys) x ≡ false
     never apart [] k = refl
     never apart (z ∷ ys) k = elim (cases_Bool (z.serial == n)) [
       | inl at ↦
@@ -135,7 +132,7 @@ pub over_is : (n : ℕ) (state : State) (s : Session) (t : Told) → IsStrictlyS
     → overflow (with_told n t state) ≡ state_with_error n (queue_size t.queue) state
 over_is n state s t up found fit many others =
     let one = one_numbered n state.sessions s up found in
-    let full : List Session = change n (requeued t.queue) state.sessions in
+    let full : List Session = change n (with_queue t.queue) state.sessions in
     ap (λ (ss : List Session). record state { sessions = ss; standing = filter (λ x. not (is_overrun full x)) t.standing })
     (over_sessions n t.queue s many state.sessions one fit)
     ∙ ap (λ (xs : List machine.Standing). record (state_with_error n (queue_size t.queue) state) { standing = xs })

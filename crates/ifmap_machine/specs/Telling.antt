@@ -53,6 +53,10 @@ told_to before after notes x =
 abbrev pub told_in_session : List Attachment → List Attachment → List Note → List Standing → ℕ → List PollItem
 told_in_session before after notes standing serial = flat_map (told_to before after notes) (standing_in serial standing)
 
+-- a session with another queue
+abbrev pub with_queue : List PollItem → Session → Session
+with_queue queue s = record s { queue = queue }
+
 -- a session with more to tell
 abbrev pub tell_session : List PollItem → Session → Session
 tell_session items s = record s { queue = s.queue ++ items }

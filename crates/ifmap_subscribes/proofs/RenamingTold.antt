@@ -20,7 +20,7 @@ use Rattle.ifmap_lemmas.specs.Options.{is_some_of, some_is}
 use Rattle.ifmap_changes.specs.ifmap_machine.State as machine
 use Rattle.ifmap_changes.specs.ifmap_machine.State.{standing_order}
 use Rattle.ifmap_changes.specs.ifmap_machine.Subscribing.{Told, is_of_name}
-use Rattle.ifmap_changes.specs.ifmap_machine.Telling.{tell_session}
+use Rattle.ifmap_changes.specs.ifmap_machine.Telling.{tell_session, with_queue}
 use Rattle.ifmap_changes.specs.ifmap_plans.laws.PlacingLaws.{put_sorted}
 use Rattle.ifmap_search.specs.declared.results.PollItem.{PollItem}
 use Rattle.ifmap_changes.specs.ifmap_session.Sessions.{Changes, IsLive, Session, SessionTable, change, is_named, session_order, session_with_serial, spare_of, without_name}
@@ -85,11 +85,8 @@ retold name items s = record s { queue = filter (λ item. not (is_named name ite
 retold_keeps : (name : List ℕ) (items : List PollItem) → KeepsIdAndClient (retold name items)
 retold_keeps name items = record { serial = λ s. refl; id = λ s. refl; client = λ s. refl }
 
-abbrev requeued : List PollItem → Session → Session
-requeued queue s = record s { queue = queue }
-
-requeued_keeps : (queue : List PollItem) → KeepsIdAndClient (requeued queue)
-requeued_keeps queue = record { serial = λ s. refl; id = λ s. refl; client = λ s. refl }
+with_queue_keeps : (queue : List PollItem) → KeepsIdAndClient (with_queue queue)
+with_queue_keeps queue = record { serial = λ s. refl; id = λ s. refl; client = λ s. refl }
 
 -- ---- renamings are made one after the other
 
@@ -99,7 +96,7 @@ module _ (serial : ℕ) where
     told = λ s e. (
       refl,
       sym (change_none serial (λ x. x) (λ x. refl) parts.sessions.live)
-          ∙ only_one serial (λ x. x) (requeued s.queue) parts.sessions.live s up e refl,
+          ∙ only_one serial (λ x. x) (with_queue s.queue) parts.sessions.live s up e refl,
     );
     counter = refl;
     rows = refl;
@@ -117,21 +114,21 @@ module _ (serial : ℕ) where
     where
       told : (s : Session) → session_with_serial serial old.sessions.live ≡ Some s
           → (map standing_of new.standing.items ≡ (rename_all serial (r ∷ rs) (told_in_parts old s)).standing)
-          × (new.sessions.live ≡ change serial (requeued (rename_all serial (r ∷ rs) (told_in_parts old s)).queue) old.sessions.live)
+          × (new.sessions.live ≡ change serial (with_queue (rename_all serial (r ∷ rs) (told_in_parts old s)).queue) old.sessions.live)
       told s e =
           let one = a.told s e in
           let first : Told = rename serial r (told_in_parts old s) in
-          let there : session_with_serial serial mid.sessions.live ≡ Some (requeued first.queue s) =
+          let there : session_with_serial serial mid.sessions.live ≡ Some (with_queue first.queue s) =
           ap (session_with_serial serial) one.1
-          ∙ found_then serial (requeued first.queue) (requeued_keeps first.queue) old.sessions.live s e in
-          let two = b.told (requeued first.queue s) there in
-          let same : told_in_parts mid (requeued first.queue s) ≡ first =
+          ∙ found_then serial (with_queue first.queue) (with_queue_keeps first.queue) old.sessions.live s e in
+          let two = b.told (with_queue first.queue s) there in
+          let same : told_in_parts mid (with_queue first.queue s) ≡ first =
           ap (λ (st : List machine.Standing). record { queue = first.queue; standing = st }) one.0 in
           let last : List PollItem = (rename_all serial rs first).queue in (
             two.0 ∙ ap (λ (t : Told). (rename_all serial rs t).standing) same,
-            two.1 ∙ ap (λ (t : Told). change serial (requeued (rename_all serial rs t).queue) mid.sessions.live) same
-                ∙ ap (change serial (requeued last)) one.1
-                ∙ change_both serial (requeued first.queue) (requeued last) (requeued last) (λ x. refl) (λ x. refl) old.sessions.live,
+            two.1 ∙ ap (λ (t : Told). change serial (with_queue (rename_all serial rs t).queue) mid.sessions.live) same
+                ∙ ap (change serial (with_queue last)) one.1
+                ∙ change_both serial (with_queue first.queue) (with_queue last) (with_queue last) (λ x. refl) (λ x. refl) old.sessions.live,
           )
 
 -- some renamings are made, the rest can be
@@ -240,7 +237,7 @@ module _ (serial : ℕ) (r : Renaming) (old : Parts) (rest : List Renaming) (can
         stands ∙ ap (stand_where r.standing) (left_shown serial r.name old.standing.items mid.standing.items left),
         both.live
             ∙ only_one serial (retold r.name (option_to_list r.item))
-            (requeued (filter (λ item. not (is_named r.name item)) s.queue ++ option_to_list r.item)) old.sessions.live s up e refl,
+            (with_queue (filter (λ item. not (is_named r.name item)) s.queue ++ option_to_list r.item)) old.sessions.live s up e refl,
       );
       counter = both.counter;
       rows = ap rows_now (sym graph) ∙ rows;
