@@ -3,7 +3,7 @@ pub mod CharacterLaws
 pub mod FilterLaws
 pub mod MeaningLaws
 pub mod ReadLaws
-pub mod RowLaws
+pub mod AttributeLaws
 pub mod ScopeLaws
 pub mod SoundLaws
 pub mod SpaceLaws

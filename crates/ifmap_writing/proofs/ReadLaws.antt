@@ -55,13 +55,13 @@ use Rattle.ifmap_requests.specs.RequestForms.{request_check, search_attributes, 
 use Rattle.ifmap_requests.specs.RequestForms.{subscribe_of, subscribe_op_check, subscription_form, subscription_from_form, update_form, update_from_form}
 use Rattle.ifmap_requests.specs.Fit.{IsFitLimit, IsFitOp, IsFitRequest, IsFitSubscribeOp}
 use Rattle.ifmap_requests.specs.ifmap_forms.IdentifierLaws.{identifiers_back, item_of_identifiers}
-use Rattle.ifmap_writing.specs.Attributes.{NamedValue, attributes_of, filter_rows, filter_value, kinds_value, lifetime_rows, lifetime_value}
-use Rattle.ifmap_writing.specs.Attributes.{limit_rows, limit_value, name_rows, number_value, purge_rows, search_rows, session_rows}
-use Rattle.ifmap_writing.specs.Attributes.{subscription_rows}
+use Rattle.ifmap_writing.specs.Attributes.{NamedValue, attributes_of, values_of_filter, filter_value, kinds_value, values_of_lifetime, lifetime_value}
+use Rattle.ifmap_writing.specs.Attributes.{values_of_limit, limit_value, values_of_name, number_value, values_of_purge, values_of_search, values_of_session}
+use Rattle.ifmap_writing.specs.Attributes.{values_of_subscription}
 use Rattle.ifmap_writing.specs.Bounds.{IsBounded, IsBoundedSearch, IsBoundedSubscribe}
 use Rattle.ifmap_writing.specs.RequestElements.{element_in, identifier_children, item_children, list_element, publish_element}
 use Rattle.ifmap_writing.specs.RequestElements.{published_children, subscribe_element}
-use Rattle.ifmap_writing.proofs.RowLaws.{only_rows, or_none, row_value, value_found}
+use Rattle.ifmap_writing.proofs.AttributeLaws.{only_values, or_none, value_named, value_found}
 use Rattle.ifmap_writing.proofs.ValueLaws.{depth_back, kinds_back, lifetime_back, limit_back, name_back, size_back}
 use Rattle.ifmap_writing.proofs.WrittenLaws.{published_are, published_elements}
 
@@ -106,16 +106,16 @@ search_values s = both s.match_links (both s.max_depth (both s.max_size (both s.
 
 -- ---- (1) attributes
 
--- an element of a name whose attributes are rows
-abbrev with_rows : Name → List NamedValue → List Child → Element
-with_rows name rows children = record { name = name; attributes = attributes_of rows; children = children }
+-- an element of a name whose attributes are named values
+abbrev with_values : Name → List NamedValue → List Child → Element
+with_values name values children = record { name = name; attributes = attributes_of values; children = children }
 
--- the attribute is read back where its row is
-field_back : {X : Type 0} (field : Field X) (scope : Scope) (name : Name) (rows : List NamedValue) (children : List Child)
-    (value : Option (List ℕ)) (x : X) → row_value field.local rows ≡ value → field.reads scope value (ok_value x)
-    → field_check field scope (with_rows name rows children) (ok_value x)
-field_back field scope name rows children value x is f =
-    subst (λ (o : Option (List ℕ)). field.reads scope o (ok_value x)) (sym (value_found field.local rows ∙ is)) f
+-- the attribute is read back where its value is
+field_back : {X : Type 0} (field : Field X) (scope : Scope) (name : Name) (values : List NamedValue) (children : List Child)
+    (value : Option (List ℕ)) (x : X) → value_named field.local values ≡ value → field.reads scope value (ok_value x)
+    → field_check field scope (with_values name values children) (ok_value x)
+field_back field scope name values children value x is f =
+    subst (λ (o : Option (List ℕ)). field.reads scope o (ok_value x)) (sym (value_found field.local values ∙ is)) f
 
 filter_back : (spaces : List (List ℕ)) (scope : Scope) (filter : Option Filter) → IsReadIn spaces filter scope
     → read_filter scope (filter_value spaces filter) (ok_value filter)
@@ -212,41 +212,42 @@ module _ (canon : (i : Identifier) → IsIdentifier i → IsCanon (identifier_el
 
   -- ---- (4) searches
 
-  -- the attributes of a search, where its rows are among these
-  search_back : (spaces : List (List ℕ)) (scope : Scope) (name : Name) (rows : List NamedValue) (children : List Child)
+  -- the attributes of a search, where its values are among these
+  search_back : (spaces : List (List ℕ)) (scope : Scope) (name : Name) (values : List NamedValue) (children : List Child)
       (s : search.Search)
       → AreReadIn spaces s scope → IsBoundedSearch s
-      → row_value (codes "match-links") rows ≡ filter_value spaces s.match_links
-      → row_value (codes "max-depth") rows ≡ number_value s.max_depth
-      → row_value (codes "max-size") rows ≡ number_value s.max_size
-      → row_value (codes "result-filter") rows ≡ filter_value spaces s.result_filter
-      → row_value (codes "terminal-identifier-type") rows ≡ kinds_value s.terminal
-      → search_attributes.reads scope (with_rows name rows children) (ok_value (search_values s))
-  search_back spaces scope name rows children s w bounds links depth size result terminal = (
+      → value_named (codes "match-links") values ≡ filter_value spaces s.match_links
+      → value_named (codes "max-depth") values ≡ number_value s.max_depth
+      → value_named (codes "max-size") values ≡ number_value s.max_size
+      → value_named (codes "result-filter") values ≡ filter_value spaces s.result_filter
+      → value_named (codes "terminal-identifier-type") values ≡ kinds_value s.terminal
+      → search_attributes.reads scope (with_values name values children) (ok_value (search_values s))
+  search_back spaces scope name values children s w bounds links depth size result terminal = (
     s.match_links,
-    field_back links_field scope name rows children (filter_value spaces s.match_links) s.match_links links
+    field_back links_field scope name values children (filter_value spaces s.match_links) s.match_links links
         (filter_back spaces scope s.match_links w.match_links),
     (
       both s.max_depth (both s.max_size (both s.result_filter (both s.terminal tt))),
       (
         s.max_depth,
-        field_back depth_field scope name rows children (number_value s.max_depth) s.max_depth depth (depth_back s.max_depth bounds.depth),
+        field_back depth_field scope name values children (number_value s.max_depth) s.max_depth depth
+            (depth_back s.max_depth bounds.depth),
         (
           both s.max_size (both s.result_filter (both s.terminal tt)),
           (
             s.max_size,
-            field_back size_field scope name rows children (number_value s.max_size) s.max_size size (size_back s.max_size bounds.size),
+            field_back size_field scope name values children (number_value s.max_size) s.max_size size (size_back s.max_size bounds.size),
             (
               both s.result_filter (both s.terminal tt),
               (
                 s.result_filter,
-                field_back result_field scope name rows children (filter_value spaces s.result_filter)
+                field_back result_field scope name values children (filter_value spaces s.result_filter)
                     s.result_filter result (filter_back spaces scope s.result_filter w.result_filter),
                 (
                   both s.terminal tt,
                   (
                     s.terminal,
-                    field_back kinds_field scope name rows children (kinds_value s.terminal) s.terminal terminal (kinds_back s.terminal),
+                    field_back kinds_field scope name values children (kinds_value s.terminal) s.terminal terminal (kinds_back s.terminal),
                     (tt, refl, refl),
                   ),
                   refl,
@@ -271,9 +272,9 @@ module _ (canon : (i : Identifier) → IsIdentifier i → IsCanon (identifier_el
         let e : Element = publish_element spaces (publish.Update item elements forever) in
         found_form update_form update_from_form scopes e (both forever tt)
         (found_alone lifetime_field (scopes []) e forever
-        (field_back lifetime_field (scopes []) (bare_name (codes "update")) (lifetime_rows forever) (published_children item elements)
+        (field_back lifetime_field (scopes []) (bare_name (codes "update")) (values_of_lifetime forever) (published_children item elements)
         (lifetime_value forever) forever (or_none (lifetime_value forever)) (lifetime_back forever)))
-        (both item elements) (only_rows (codes "lifetime" ∷ []) (lifetime_rows forever) refl) (published_back item elements f.0 f.1)
+        (both item elements) (only_values (codes "lifetime" ∷ []) (values_of_lifetime forever) refl) (published_back item elements f.0 f.1)
     publish_back scopes (publish.Notify item elements) f w =
         found_form notify_form notify_of scopes (publish_element spaces (publish.Notify item elements)) tt refl (both item elements) refl
         (published_back item elements f.0 f.1)
@@ -281,51 +282,51 @@ module _ (canon : (i : Identifier) → IsIdentifier i → IsCanon (identifier_el
         let e : Element = publish_element spaces (publish.Delete item filter) in
         found_form delete_form delete_from_form scopes e (both filter tt)
         (found_alone (filter_field (codes "filter")) (scopes []) e filter
-        (field_back (filter_field (codes "filter")) (scopes []) (bare_name (codes "delete")) (filter_rows spaces filter)
+        (field_back (filter_field (codes "filter")) (scopes []) (bare_name (codes "delete")) (values_of_filter spaces filter)
         (item_children item) (filter_value spaces filter) filter (or_none (filter_value spaces filter))
         (filter_back spaces (scopes []) filter w)))
-        item (only_rows (codes "filter" ∷ []) (filter_rows spaces filter) refl) (item_back canon item f.0)
+        item (only_values (codes "filter" ∷ []) (values_of_filter spaces filter) refl) (item_back canon item f.0)
 
     subscribe_back : (scopes : Scopes) (op : SubscribeOp) → IsFitSubscribeOp op → IsBoundedSubscribe op
         → IsReadSubscribe spaces op (scopes []) → subscribe_op_check scopes (subscribe_element spaces op) (ok_value op)
     subscribe_back scopes (subscribe.Update name s) f within w =
-        let rows : List NamedValue = subscription_rows spaces name s in
+        let values : List NamedValue = values_of_subscription spaces name s in
         let children : List Child = identifier_children (s.start ∷ []) in
         let e : Element = subscribe_element spaces (subscribe.Update name s) in
         found_form subscription_form subscription_from_form scopes e (both name (search_values s))
         (found_beside name_field search_attributes (scopes []) e name (search_values s)
-        (field_back name_field (scopes []) (bare_name (codes "update")) rows children (Some name) name refl
+        (field_back name_field (scopes []) (bare_name (codes "update")) values children (Some name) name refl
         (name_back name within.0.some within.0.few))
-        (search_back spaces (scopes []) (bare_name (codes "update")) rows children s w within.1
+        (search_back spaces (scopes []) (bare_name (codes "update")) values children s w within.1
         (or_none (filter_value spaces s.match_links)) refl refl (or_none (filter_value spaces s.result_filter))
         (or_none (kinds_value s.terminal))))
-        s.start (only_rows subscription_form.attributes.locals rows refl) (start_back canon s.start f.1.start)
+        s.start (only_values subscription_form.attributes.locals values refl) (start_back canon s.start f.1.start)
     subscribe_back scopes (subscribe.Delete name) f within w =
         let e : Element = subscribe_element spaces (subscribe.Delete name) in
         found_form end_form end_from_form scopes e (both name tt)
         (found_alone name_field (scopes []) e name
-        (field_back name_field (scopes []) (bare_name (codes "delete")) (name_rows name) [] (Some name) name refl
+        (field_back name_field (scopes []) (bare_name (codes "delete")) (values_of_name name) [] (Some name) name refl
         (name_back name within.some within.few)))
-        tt (only_rows (codes "name" ∷ []) (name_rows name) refl) refl
+        tt (only_values (codes "name" ∷ []) (values_of_name name) refl) refl
 
     -- ---- (6) requests
 
-    -- the id of a session, read from rows that have it
-    session_back : (scope : Scope) (name : Name) (rows : List NamedValue) (children : List Child) (session : List ℕ)
-        → row_value (codes "session-id") rows ≡ Some session
-        → field_check session_field scope (with_rows name rows children) (ok_value session)
-    session_back scope name rows children session is =
-        field_back session_field scope name rows children (Some session) session is refl
+    -- the id of a session, read from values that have it
+    session_back : (scope : Scope) (name : Name) (values : List NamedValue) (children : List Child) (session : List ℕ)
+        → value_named (codes "session-id") values ≡ Some session
+        → field_check session_field scope (with_values name values children) (ok_value session)
+    session_back scope name values children session is =
+        field_back session_field scope name values children (Some session) session is refl
 
     alone_back : (scope : Scope) (name : Name) (children : List Child) (session : List ℕ)
-        → renew_form.attributes.reads scope (with_rows name (session_rows session) children) (ok_value (both session tt))
+        → renew_form.attributes.reads scope (with_values name (values_of_session session) children) (ok_value (both session tt))
     alone_back scope name children session =
-        found_alone session_field scope (with_rows name (session_rows session) children) session
-        (session_back scope name (session_rows session) children session refl)
+        found_alone session_field scope (with_values name (values_of_session session) children) session
+        (session_back scope name (values_of_session session) children session refl)
 
     only_session : (session : List ℕ) (name : Name) (children : List Child)
-        → has_only (codes "validation" ∷ (codes "session-id" ∷ [])) (with_rows name (session_rows session) children) ≡ true
-    only_session session name children = only_rows (codes "validation" ∷ (codes "session-id" ∷ [])) (session_rows session) refl
+        → has_only (codes "validation" ∷ (codes "session-id" ∷ [])) (with_values name (values_of_session session) children) ≡ true
+    only_session session name children = only_values (codes "validation" ∷ (codes "session-id" ∷ [])) (values_of_session session) refl
 
     publishes_back : (scopes : Scopes) (ops : List PublishOp) → AllByRecursion IsFitOp ops
         → ((path : List ℕ) → ArePublishRead spaces ops (scopes path))
@@ -369,9 +370,9 @@ module _ (canon : (i : Identifier) → IsIdentifier i → IsCanon (identifier_el
         let e : Element = element_in spaces (NewSession limit) in
         found_form new_session_form new_session_of scopes e (both limit tt)
         (found_alone limit_field (scopes []) e limit
-        (field_back limit_field (scopes []) e.name (limit_rows limit) [] (limit_value limit) limit (or_none (limit_value limit))
+        (field_back limit_field (scopes []) e.name (values_of_limit limit) [] (limit_value limit) limit (or_none (limit_value limit))
         (limit_back limit (limit_bounds limit f))))
-        tt (only_rows (codes "validation" ∷ (codes "max-poll-result-size" ∷ [])) (limit_rows limit) refl) refl
+        tt (only_values (codes "validation" ∷ (codes "max-poll-result-size" ∷ [])) (values_of_limit limit) refl) refl
     request_back scopes (RenewSession session) f within w =
         let e : Element = element_in spaces (RenewSession session) in
         found_form renew_form renewal_of scopes e (both session tt) (alone_back (scopes []) e.name [] session) tt
@@ -386,13 +387,13 @@ module _ (canon : (i : Identifier) → IsIdentifier i → IsCanon (identifier_el
         (only_session session e.name e.children) (publishes_back scopes ops f.1 w)
     request_back scopes (Search session s) f within w =
         let e : Element = element_in spaces (Search session s) in
-        let rows : List NamedValue = search_rows spaces session s in
+        let values : List NamedValue = values_of_search spaces session s in
         found_form search_form search_of scopes e (both session (search_values s))
         (found_beside session_field search_attributes (scopes []) e session (search_values s)
-        (session_back (scopes []) e.name rows e.children session refl)
-        (search_back spaces (scopes []) e.name rows e.children s w within (or_none (filter_value spaces s.match_links)) refl refl
+        (session_back (scopes []) e.name values e.children session refl)
+        (search_back spaces (scopes []) e.name values e.children s w within (or_none (filter_value spaces s.match_links)) refl refl
         (or_none (filter_value spaces s.result_filter)) (or_none (kinds_value s.terminal))))
-        s.start (only_rows (codes "validation" ∷ search_form.attributes.locals) rows refl) (start_back canon s.start f.1.start)
+        s.start (only_values (codes "validation" ∷ search_form.attributes.locals) values refl) (start_back canon s.start f.1.start)
     request_back scopes (Subscribe session ops) f within w =
         let e : Element = element_in spaces (Subscribe session ops) in
         found_form subscribe_form subscribe_of scopes e (both session tt) (alone_back (scopes []) e.name e.children session) ops
@@ -403,15 +404,15 @@ module _ (canon : (i : Identifier) → IsIdentifier i → IsCanon (identifier_el
         (only_session session e.name []) refl
     request_back scopes (PurgePublisher session publisher) f within w =
         let e : Element = element_in spaces (PurgePublisher session publisher) in
-        let rows : List NamedValue = purge_rows session publisher in
+        let values : List NamedValue = values_of_purge session publisher in
         found_form purge_form purge_of scopes e (both session (both publisher tt)) (
           session,
-          session_back (scopes []) e.name rows [] session refl,
+          session_back (scopes []) e.name values [] session refl,
           (
             both publisher tt,
             found_alone publisher_field (scopes []) e publisher
-                (field_back publisher_field (scopes []) e.name rows [] (Some publisher) publisher refl refl),
+                (field_back publisher_field (scopes []) e.name values [] (Some publisher) publisher refl refl),
             refl,
           ),
         )
-        tt (only_rows (codes "validation" ∷ (codes "session-id" ∷ (codes "ifmap-publisher-id" ∷ []))) rows refl) refl
+        tt (only_values (codes "validation" ∷ (codes "session-id" ∷ (codes "ifmap-publisher-id" ∷ []))) values refl) refl

@@ -48,8 +48,8 @@ use Rattle.ifmap_requests.specs.declared.requests.SubscribeOp.TheVariants as sub
 use Rattle.ifmap_requests.specs.ifmap_envelopes.Spaces.{envelope_space, ifmap_space}
 use Rattle.ifmap_requests.specs.Fit.{IsFitOp, IsFitRequest, IsFitSearch, IsFitSubscribeOp, MayBeFitFilter}
 use Rattle.ifmap_requests.specs.FitFilters.{IsFitFilter}
-use Rattle.ifmap_writing.specs.Attributes.{NamedValue, filter_rows, filter_value, kinds_value, lifetime_rows, lifetime_value, limit_rows}
-use Rattle.ifmap_writing.specs.Attributes.{limit_value, name_rows, purge_rows, search_rows, session_rows, subscription_rows}
+use Rattle.ifmap_writing.specs.Attributes.{NamedValue, values_of_filter, filter_value, kinds_value, values_of_lifetime, lifetime_value, values_of_limit}
+use Rattle.ifmap_writing.specs.Attributes.{limit_value, values_of_name, values_of_purge, values_of_search, values_of_session, values_of_subscription}
 use Rattle.ifmap_writing.specs.Bounds.{IsBounded, IsBoundedMetadata, IsBoundedPublish}
 use Rattle.ifmap_writing.specs.RequestElements.{asking_element, element_in, list_element, part_element}
 use Rattle.ifmap_writing.specs.RequestElements.{publish_element, published_children, request_element, subscribe_element}
@@ -57,8 +57,8 @@ use Rattle.ifmap_writing.specs.RequestSpaces.{optional_filter, publish_filters, 
 use Rattle.ifmap_writing.specs.RequestSpaces.{subscribe_filters}
 use Rattle.ifmap_writing.proofs.CharacterLaws.{joined_characters, plain_characters}
 use Rattle.ifmap_writing.proofs.FilterLaws.{filter_characters, filter_namespaces}
-use Rattle.ifmap_writing.proofs.RowLaws.{is_plain_local, plain_fits}
-use Rattle.ifmap_writing.proofs.SoundLaws.{AreFitRows, sound_whole}
+use Rattle.ifmap_writing.proofs.AttributeLaws.{is_plain_local, plain_fits}
+use Rattle.ifmap_writing.proofs.SoundLaws.{AreFitValues, sound_whole}
 
 -- ---- (1) names
 
@@ -113,16 +113,16 @@ kinds_fit [] = tt
 kinds_fit (k ∷ kinds) =
     joined_characters (codes ",") kind_name (plain_characters (codes ",") refl refl) (k ∷ kinds) (each_kind (k ∷ kinds))
 
--- ---- (3) rows
+-- ---- (3) named values
 
-no_rows : AreFitRows []
-no_rows = record { rise = refl; plain = refl; values = tt }
+no_values : AreFitValues []
+no_values = record { rise = refl; plain = refl; values = tt }
 
-session_fit : (session : List ℕ) → IsCharacters session → AreFitRows (session_rows session)
+session_fit : (session : List ℕ) → IsCharacters session → AreFitValues (values_of_session session)
 session_fit session s = record { rise = refl; plain = refl; values = (s, tt) }
 
 search_fit : (spaces : List (List ℕ)) (session : List ℕ) (s : search.Search) → IsCharacters session → IsFitSearch s
-    → AreFitRows (search_rows spaces session s)
+    → AreFitValues (values_of_search spaces session s)
 search_fit spaces session s c f = record {
   rise = refl;
   plain = refl;
@@ -136,7 +136,7 @@ search_fit spaces session s c f = record {
 }
 
 subscription_fit : (spaces : List (List ℕ)) (name : List ℕ) (s : search.Search) → IsCharacters name → IsFitSearch s
-    → AreFitRows (subscription_rows spaces name s)
+    → AreFitValues (values_of_subscription spaces name s)
 subscription_fit spaces name s c f = record {
   rise = refl;
   plain = refl;
@@ -165,7 +165,7 @@ list_sound : (elements : List Metadata) → AllByRecursion IsMetadata elements �
     → IsGood 60 (list_element elements)
 list_sound elements f within =
     sound_whole 59 (bare_name (codes "metadata")) [] (map (λ (m : Metadata). m.element) elements) (bare_fits (codes "metadata") refl)
-    no_rows (each elements f within)
+    no_values (each elements f within)
   where
     each : (elements : List Metadata) → AllByRecursion IsMetadata elements → AllByRecursion IsBoundedMetadata elements
         → AllByRecursion (IsGood 59) (map (λ (m : Metadata). m.element) elements)
@@ -195,31 +195,31 @@ module _ (fits : (i : Identifier) → IsIdentifier i → IsFit (identifier_eleme
   -- ---- (5) operations
 
   -- an operation that publishes
-  carrier_sound : (local : List ℕ) (rows : List NamedValue) (item : Item) (elements : List Metadata) → is_plain_local local ≡ true
-      → AreFitRows rows → IsCanonItem item → AllByRecursion IsMetadata elements → AllByRecursion IsBoundedMetadata elements
-      → IsGood 61 (part_element local rows (published_children item elements))
-  carrier_sound local rows item elements plain r i f within =
-      subst (λ (children : List Child). IsGood 61 (part_element local rows children)) (sym (published_are item elements))
-      (sound_whole 60 (bare_name local) rows (published_elements item elements) (bare_fits local plain) r
+  carrier_sound : (local : List ℕ) (values : List NamedValue) (item : Item) (elements : List Metadata) → is_plain_local local ≡ true
+      → AreFitValues values → IsCanonItem item → AllByRecursion IsMetadata elements → AllByRecursion IsBoundedMetadata elements
+      → IsGood 61 (part_element local values (published_children item elements))
+  carrier_sound local values item elements plain r i f within =
+      subst (λ (children : List Child). IsGood 61 (part_element local values children)) (sym (published_are item elements))
+      (sound_whole 60 (bare_name local) values (published_elements item elements) (bare_fits local plain) r
       (published_sound item elements i f within))
 
   publish_sound : (spaces : List (List ℕ)) (op : PublishOp) → IsFitOp op → IsBoundedPublish op → IsGood 61 (publish_element spaces op)
   publish_sound spaces (publish.Update item elements forever) f within =
-      carrier_sound (codes "update") (lifetime_rows forever) item elements refl
+      carrier_sound (codes "update") (values_of_lifetime forever) item elements refl
       (record { rise = refl; plain = refl; values = (lifetime_fits forever, tt) }) f.0 f.1 within
   publish_sound spaces (publish.Notify item elements) f within =
-      carrier_sound (codes "notify") [] item elements refl no_rows f.0 f.1 within
+      carrier_sound (codes "notify") [] item elements refl no_values f.0 f.1 within
   publish_sound spaces (publish.Delete item filter) f within =
-      sound_whole 60 (bare_name (codes "delete")) (filter_rows spaces filter) (map identifier_element (identifiers_of item))
+      sound_whole 60 (bare_name (codes "delete")) (values_of_filter spaces filter) (map identifier_element (identifiers_of item))
       (bare_fits (codes "delete") refl) (record { rise = refl; plain = refl; values = (filter_fits spaces filter f.1, tt) })
       (identifiers_sound (identifiers_of item) f.0.identifiers)
 
   subscribe_sound : (spaces : List (List ℕ)) (op : SubscribeOp) → IsFitSubscribeOp op → IsGood 61 (subscribe_element spaces op)
   subscribe_sound spaces (subscribe.Update name s) f =
-      sound_whole 60 (bare_name (codes "update")) (subscription_rows spaces name s) (identifier_element s.start ∷ [])
+      sound_whole 60 (bare_name (codes "update")) (values_of_subscription spaces name s) (identifier_element s.start ∷ [])
       (bare_fits (codes "update") refl) (subscription_fit spaces name s f.0 f.1) (identifier_sound s.start f.1.start, tt)
   subscribe_sound spaces (subscribe.Delete name) f =
-      sound_whole 60 (bare_name (codes "delete")) (name_rows name) [] (bare_fits (codes "delete") refl)
+      sound_whole 60 (bare_name (codes "delete")) (values_of_name name) [] (bare_fits (codes "delete") refl)
       (record { rise = refl; plain = refl; values = (f, tt) }) tt
 
   publishes_sound : (spaces : List (List ℕ)) (ops : List PublishOp) → AllByRecursion IsFitOp ops → AllByRecursion IsBoundedPublish ops
@@ -234,33 +234,33 @@ module _ (fits : (i : Identifier) → IsIdentifier i → IsFit (identifier_eleme
 
   -- ---- (6) requests
 
-  asking_sound : (local : List ℕ) (rows : List NamedValue) (es : List Element) → is_plain_local local ≡ true → AreFitRows rows
-      → AllByRecursion (IsGood 61) es → IsGood 62 (asking_element local rows (as_children es))
-  asking_sound local rows es plain r f =
-      sound_whole 61 (record { space = ifmap_space; local = local }) rows es (asking_fits local plain) r f
+  asking_sound : (local : List ℕ) (values : List NamedValue) (es : List Element) → is_plain_local local ≡ true → AreFitValues values
+      → AllByRecursion (IsGood 61) es → IsGood 62 (asking_element local values (as_children es))
+  asking_sound local values es plain r f =
+      sound_whole 61 (record { space = ifmap_space; local = local }) values es (asking_fits local plain) r f
 
   element_sound : (spaces : List (List ℕ)) (r : Request) → IsFitRequest r → IsBounded r → IsGood 62 (element_in spaces r)
   element_sound spaces (NewSession limit) f within =
-      asking_sound (codes "newSession") (limit_rows limit) [] refl
+      asking_sound (codes "newSession") (values_of_limit limit) [] refl
       (record { rise = refl; plain = refl; values = (limit_fits limit, tt) }) tt
   element_sound spaces (RenewSession session) f within =
-      asking_sound (codes "renewSession") (session_rows session) [] refl (session_fit session f) tt
+      asking_sound (codes "renewSession") (values_of_session session) [] refl (session_fit session f) tt
   element_sound spaces (EndSession session) f within =
-      asking_sound (codes "endSession") (session_rows session) [] refl (session_fit session f) tt
+      asking_sound (codes "endSession") (values_of_session session) [] refl (session_fit session f) tt
   element_sound spaces (Publish session ops) f within =
-      asking_sound (codes "publish") (session_rows session) (map (publish_element spaces) ops) refl (session_fit session f.0)
+      asking_sound (codes "publish") (values_of_session session) (map (publish_element spaces) ops) refl (session_fit session f.0)
       (publishes_sound spaces ops f.1 within)
   element_sound spaces (Search session s) f within =
-      asking_sound (codes "search") (search_rows spaces session s) (identifier_element s.start ∷ []) refl
+      asking_sound (codes "search") (values_of_search spaces session s) (identifier_element s.start ∷ []) refl
       (search_fit spaces session s f.0 f.1)
       (good_within 60 61 (identifier_element s.start) (omega arith) (identifier_sound s.start f.1.start), tt)
   element_sound spaces (Subscribe session ops) f within =
-      asking_sound (codes "subscribe") (session_rows session) (map (subscribe_element spaces) ops) refl (session_fit session f.0)
+      asking_sound (codes "subscribe") (values_of_session session) (map (subscribe_element spaces) ops) refl (session_fit session f.0)
       (subscribes_sound spaces ops f.1)
   element_sound spaces (Poll session) f within =
-      asking_sound (codes "poll") (session_rows session) [] refl (session_fit session f) tt
+      asking_sound (codes "poll") (values_of_session session) [] refl (session_fit session f) tt
   element_sound spaces (PurgePublisher session publisher) f within =
-      asking_sound (codes "purgePublisher") (purge_rows session publisher) [] refl
+      asking_sound (codes "purgePublisher") (values_of_purge session publisher) [] refl
       (record { rise = refl; plain = refl; values = (f.1, (f.0, tt)) }) tt
 
   -- ---- (7) the envelope
@@ -269,9 +269,9 @@ module _ (fits : (i : Identifier) → IsIdentifier i → IsFit (identifier_eleme
   envelope_sound r f within =
       let inner = element_sound (request_spaces r) r f within in
       let body : Element = element_around (envelope_name (codes "Body")) (request_element r) in
-      let b = sound_whole 62 (envelope_name (codes "Body")) [] (request_element r ∷ []) (envelope_fits (codes "Body") refl) no_rows
+      let b = sound_whole 62 (envelope_name (codes "Body")) [] (request_element r ∷ []) (envelope_fits (codes "Body") refl) no_values
       (inner, tt) in
-      sound_whole 63 (envelope_name (codes "Envelope")) [] (body ∷ []) (envelope_fits (codes "Envelope") refl) no_rows (b, tt)
+      sound_whole 63 (envelope_name (codes "Envelope")) [] (body ∷ []) (envelope_fits (codes "Envelope") refl) no_values (b, tt)
 
 -- the namespaces of a request's filters
 

@@ -15,15 +15,15 @@ pub record NamedValue : Type 0 where
   pub local : List ℕ
   pub value : Option (List ℕ)
 
-abbrev pub attribute_row : List ℕ → Option (List ℕ) → NamedValue
-attribute_row local value = record { local = local; value = value }
+abbrev pub named_value : List ℕ → Option (List ℕ) → NamedValue
+named_value local value = record { local = local; value = value }
 
 abbrev pub written_attribute : List ℕ → Option (List ℕ) → List Attribute
 written_attribute local None = []
 written_attribute local (Some value) = bare_attribute local value ∷ []
 
 abbrev pub attributes_of : List NamedValue → List Attribute
-attributes_of rows = flat_map (λ row. written_attribute row.local row.value) rows
+attributes_of values = flat_map (λ named. written_attribute named.local named.value) values
 
 -- ---- values
 
@@ -52,43 +52,43 @@ kinds_value (kind ∷ others) = Some (joined_texts (codes ",") kind_name (kind �
 
 -- ---- the attributes of the elements, in the order of their names
 
-abbrev pub session_rows : List ℕ → List NamedValue
-session_rows session = attribute_row (codes "session-id") (Some session) ∷ []
+abbrev pub values_of_session : List ℕ → List NamedValue
+values_of_session session = named_value (codes "session-id") (Some session) ∷ []
 
-abbrev pub limit_rows : Option ℕ → List NamedValue
-limit_rows limit = attribute_row (codes "max-poll-result-size") (limit_value limit) ∷ []
+abbrev pub values_of_limit : Option ℕ → List NamedValue
+values_of_limit limit = named_value (codes "max-poll-result-size") (limit_value limit) ∷ []
 
-abbrev pub purge_rows : List ℕ → List ℕ → List NamedValue
-purge_rows session publisher = attribute_row (codes "ifmap-publisher-id") (Some publisher) ∷ session_rows session
+abbrev pub values_of_purge : List ℕ → List ℕ → List NamedValue
+values_of_purge session publisher = named_value (codes "ifmap-publisher-id") (Some publisher) ∷ values_of_session session
 
-abbrev pub lifetime_rows : Bool → List NamedValue
-lifetime_rows forever = attribute_row (codes "lifetime") (lifetime_value forever) ∷ []
+abbrev pub values_of_lifetime : Bool → List NamedValue
+values_of_lifetime forever = named_value (codes "lifetime") (lifetime_value forever) ∷ []
 
-abbrev pub filter_rows : List (List ℕ) → Option Filter → List NamedValue
-filter_rows spaces filter = attribute_row (codes "filter") (filter_value spaces filter) ∷ []
+abbrev pub values_of_filter : List (List ℕ) → Option Filter → List NamedValue
+values_of_filter spaces filter = named_value (codes "filter") (filter_value spaces filter) ∷ []
 
-abbrev pub name_rows : List ℕ → List NamedValue
-name_rows name = attribute_row (codes "name") (Some name) ∷ []
+abbrev pub values_of_name : List ℕ → List NamedValue
+values_of_name name = named_value (codes "name") (Some name) ∷ []
 
 -- the filter of links and the bounds of a search; those of the walk and of the result are always said
-abbrev pub bounds_rows : List (List ℕ) → Search → List NamedValue
-bounds_rows spaces search =
-    attribute_row (codes "match-links") (filter_value spaces search.match_links)
-    ∷ (attribute_row (codes "max-depth") (number_value search.max_depth)
-    ∷ (attribute_row (codes "max-size") (number_value search.max_size) ∷ []))
+abbrev pub values_of_bounds : List (List ℕ) → Search → List NamedValue
+values_of_bounds spaces search =
+    named_value (codes "match-links") (filter_value spaces search.match_links)
+    ∷ (named_value (codes "max-depth") (number_value search.max_depth)
+    ∷ (named_value (codes "max-size") (number_value search.max_size) ∷ []))
 
 -- of a search in a session
-abbrev pub search_rows : List (List ℕ) → List ℕ → Search → List NamedValue
-search_rows spaces session search =
-    bounds_rows spaces search
-    ++ (attribute_row (codes "result-filter") (filter_value spaces search.result_filter)
-    ∷ (attribute_row (codes "session-id") (Some session)
-    ∷ (attribute_row (codes "terminal-identifier-type") (kinds_value search.terminal) ∷ [])))
+abbrev pub values_of_search : List (List ℕ) → List ℕ → Search → List NamedValue
+values_of_search spaces session search =
+    values_of_bounds spaces search
+    ++ (named_value (codes "result-filter") (filter_value spaces search.result_filter)
+    ∷ (named_value (codes "session-id") (Some session)
+    ∷ (named_value (codes "terminal-identifier-type") (kinds_value search.terminal) ∷ [])))
 
 -- of a search under the name of a subscription
-abbrev pub subscription_rows : List (List ℕ) → List ℕ → Search → List NamedValue
-subscription_rows spaces name search =
-    bounds_rows spaces search
-    ++ (attribute_row (codes "name") (Some name)
-    ∷ (attribute_row (codes "result-filter") (filter_value spaces search.result_filter)
-    ∷ (attribute_row (codes "terminal-identifier-type") (kinds_value search.terminal) ∷ [])))
+abbrev pub values_of_subscription : List (List ℕ) → List ℕ → Search → List NamedValue
+values_of_subscription spaces name search =
+    values_of_bounds spaces search
+    ++ (named_value (codes "name") (Some name)
+    ∷ (named_value (codes "result-filter") (filter_value spaces search.result_filter)
+    ∷ (named_value (codes "terminal-identifier-type") (kinds_value search.terminal) ∷ [])))

@@ -19,13 +19,13 @@ use Rattle.ifmap_requests.specs.declared.requests.Request.TheVariants.{Poll, Pur
 use Rattle.ifmap_requests.specs.declared.requests.SubscribeOp.{SubscribeOp}
 use Rattle.ifmap_requests.specs.declared.requests.SubscribeOp.TheVariants as subscribe
 use Rattle.ifmap_requests.specs.ifmap_envelopes.Spaces.{ifmap_space}
-use Rattle.ifmap_writing.specs.Attributes.{NamedValue, attributes_of, filter_rows, lifetime_rows, limit_rows, name_rows, purge_rows, search_rows}
-use Rattle.ifmap_writing.specs.Attributes.{session_rows, subscription_rows}
+use Rattle.ifmap_writing.specs.Attributes.{NamedValue, attributes_of, values_of_filter, values_of_lifetime, values_of_limit, values_of_name, values_of_purge, values_of_search}
+use Rattle.ifmap_writing.specs.Attributes.{values_of_session, values_of_subscription}
 use Rattle.ifmap_writing.specs.RequestSpaces.{request_spaces}
 
 -- an element in no namespace with these attributes and children
 abbrev pub part_element : List ℕ → List NamedValue → List Child → Element
-part_element local rows children = bare_element local (attributes_of rows) children
+part_element local values children = bare_element local (attributes_of values) children
 
 -- ---- what operations carry
 
@@ -48,35 +48,35 @@ published_children item elements = item_children item ++ the.Element (list_eleme
 
 abbrev pub publish_element : List (List ℕ) → PublishOp → Element
 publish_element spaces (publish.Update item elements forever) =
-    part_element (codes "update") (lifetime_rows forever) (published_children item elements)
+    part_element (codes "update") (values_of_lifetime forever) (published_children item elements)
 publish_element spaces (publish.Notify item elements) = part_element (codes "notify") [] (published_children item elements)
-publish_element spaces (publish.Delete item filter) = part_element (codes "delete") (filter_rows spaces filter) (item_children item)
+publish_element spaces (publish.Delete item filter) = part_element (codes "delete") (values_of_filter spaces filter) (item_children item)
 
 abbrev pub subscribe_element : List (List ℕ) → SubscribeOp → Element
 subscribe_element spaces (subscribe.Update name search) =
-    part_element (codes "update") (subscription_rows spaces name search) (identifier_children (search.start ∷ []))
-subscribe_element spaces (subscribe.Delete name) = part_element (codes "delete") (name_rows name) []
+    part_element (codes "update") (values_of_subscription spaces name search) (identifier_children (search.start ∷ []))
+subscribe_element spaces (subscribe.Delete name) = part_element (codes "delete") (values_of_name name) []
 
 -- ---- requests
 
 -- an element in the namespace of requests
 abbrev pub asking_element : List ℕ → List NamedValue → List Child → Element
-asking_element local rows children =
-    record { name = record { space = ifmap_space; local = local }; attributes = attributes_of rows; children = children }
+asking_element local values children =
+    record { name = record { space = ifmap_space; local = local }; attributes = attributes_of values; children = children }
 
 -- the element of a request, whose filters name these namespaces by the prefixes `f1`, `f2` and so on
 abbrev pub element_in : List (List ℕ) → Request → Element
-element_in spaces (NewSession limit) = asking_element (codes "newSession") (limit_rows limit) []
-element_in spaces (RenewSession session) = asking_element (codes "renewSession") (session_rows session) []
-element_in spaces (EndSession session) = asking_element (codes "endSession") (session_rows session) []
+element_in spaces (NewSession limit) = asking_element (codes "newSession") (values_of_limit limit) []
+element_in spaces (RenewSession session) = asking_element (codes "renewSession") (values_of_session session) []
+element_in spaces (EndSession session) = asking_element (codes "endSession") (values_of_session session) []
 element_in spaces (Publish session ops) =
-    asking_element (codes "publish") (session_rows session) (as_children (map (publish_element spaces) ops))
+    asking_element (codes "publish") (values_of_session session) (as_children (map (publish_element spaces) ops))
 element_in spaces (Search session search) =
-    asking_element (codes "search") (search_rows spaces session search) (identifier_children (search.start ∷ []))
+    asking_element (codes "search") (values_of_search spaces session search) (identifier_children (search.start ∷ []))
 element_in spaces (Subscribe session ops) =
-    asking_element (codes "subscribe") (session_rows session) (as_children (map (subscribe_element spaces) ops))
-element_in spaces (Poll session) = asking_element (codes "poll") (session_rows session) []
-element_in spaces (PurgePublisher session publisher) = asking_element (codes "purgePublisher") (purge_rows session publisher) []
+    asking_element (codes "subscribe") (values_of_session session) (as_children (map (subscribe_element spaces) ops))
+element_in spaces (Poll session) = asking_element (codes "poll") (values_of_session session) []
+element_in spaces (PurgePublisher session publisher) = asking_element (codes "purgePublisher") (values_of_purge session publisher) []
 
 -- the element of a request, whose filters name the request's own namespaces
 abbrev pub request_element : Request → Element

@@ -2,7 +2,7 @@
 ghost use Rattle.std.specs.Prelude.{◌≡◌, ◌++◌, ◌∷◌, Some, codes, IfOk, OnOk};
 ghost use Rattle.ifmap_filter.specs.Printing.{joined_texts};
 ghost use Rattle.ifmap_ident.specs.Kinds.{kind_name};
-ghost use Rattle.ifmap_writing.specs.Attributes.{attributes_of, bounds_rows, filter_rows, filter_value, kinds_value, lifetime_rows, limit_rows, name_rows, number_value, purge_rows, search_rows, session_rows, subscription_rows, written_attribute};
+ghost use Rattle.ifmap_writing.specs.Attributes.{attributes_of, values_of_bounds, values_of_filter, filter_value, kinds_value, values_of_lifetime, values_of_limit, values_of_name, number_value, values_of_purge, values_of_search, values_of_session, values_of_subscription, written_attribute};
 ghost use Rattle.ifmap_writing.specs.RequestSpaces.{ServeFilter, ServeSearch};
 
 use ifmap_elem::{Attribute, Copied, Many, Text};
@@ -14,7 +14,7 @@ use std::alloc::{AllocError as NoMemory, Global};
 // The attribute of a session's id, alone.
 pub(crate) fn session_attributes(alloc: Global, session: &Text) -> Result<Vec<Attribute>, NoMemory>
     ensures { IfOk result (λ attributes.
-        attributes.items ≡ attributes_of (session_rows session.now)) }
+        attributes.items ≡ attributes_of (values_of_session session.now)) }
 {
     let mut attributes = Vec::new(alloc);
     push_text(alloc, "session-id", session, &mut attributes)?;
@@ -25,7 +25,7 @@ pub(crate) fn limit_attributes(
     alloc: Global,
     limit: Option<u32>,
 ) -> Result<Vec<Attribute>, NoMemory>
-    ensures { IfOk result (λ attributes. attributes.items ≡ attributes_of (limit_rows limit)) }
+    ensures { IfOk result (λ attributes. attributes.items ≡ attributes_of (values_of_limit limit)) }
 {
     let mut attributes = Vec::new(alloc);
     if let Some(limit) = limit {
@@ -40,7 +40,7 @@ pub(crate) fn purge_attributes(
     publisher: &Text,
 ) -> Result<Vec<Attribute>, NoMemory>
     ensures { IfOk result (λ attributes. attributes.items
-        ≡ attributes_of (purge_rows session.now publisher.now)) }
+        ≡ attributes_of (values_of_purge session.now publisher.now)) }
 {
     let mut attributes = Vec::new(alloc);
     push_text(alloc, "ifmap-publisher-id", publisher, &mut attributes)?;
@@ -50,7 +50,8 @@ pub(crate) fn purge_attributes(
 
 // A lifetime is said where it is not that of the session.
 pub(crate) fn lifetime_attributes(alloc: Global, forever: bool) -> Result<Vec<Attribute>, NoMemory>
-    ensures { IfOk result (λ attributes. attributes.items ≡ attributes_of (lifetime_rows forever)) }
+    ensures { IfOk result (λ attributes.
+        attributes.items ≡ attributes_of (values_of_lifetime forever)) }
 {
     let mut attributes = Vec::new(alloc);
     if forever {
@@ -67,7 +68,7 @@ pub(crate) fn filter_attributes(
 ) -> Result<Vec<Attribute>, NoMemory>
     requires { ServeFilter spaces.now filter.now }
     ensures { IfOk result (λ attributes. attributes.items
-        ≡ attributes_of (filter_rows spaces.now filter.now)) }
+        ≡ attributes_of (values_of_filter spaces.now filter.now)) }
 {
     let mut attributes = Vec::new(alloc);
     push_filter(alloc, "filter", spaces, filter, &mut attributes)?;
@@ -75,7 +76,8 @@ pub(crate) fn filter_attributes(
 }
 
 pub(crate) fn name_attributes(alloc: Global, name: &Text) -> Result<Vec<Attribute>, NoMemory>
-    ensures { IfOk result (λ attributes. attributes.items ≡ attributes_of (name_rows name.now)) }
+    ensures { IfOk result (λ attributes.
+        attributes.items ≡ attributes_of (values_of_name name.now)) }
 {
     let mut attributes = Vec::new(alloc);
     push_text(alloc, "name", name, &mut attributes)?;
@@ -90,7 +92,7 @@ pub(crate) fn search_attributes(
 ) -> Result<Vec<Attribute>, NoMemory>
     requires { ServeSearch spaces.now search.now }
     ensures { IfOk result (λ attributes. attributes.items
-        ≡ attributes_of (search_rows spaces.now session.now search.now)) }
+        ≡ attributes_of (values_of_search spaces.now session.now search.now)) }
 {
     let mut attributes = Vec::new(alloc);
     push_bounds(alloc, spaces, search, &mut attributes)?;
@@ -114,7 +116,7 @@ pub(crate) fn subscription_attributes(
 ) -> Result<Vec<Attribute>, NoMemory>
     requires { ServeSearch spaces.now search.now }
     ensures { IfOk result (λ attributes. attributes.items
-        ≡ attributes_of (subscription_rows spaces.now name.now search.now)) }
+        ≡ attributes_of (values_of_subscription spaces.now name.now search.now)) }
 {
     let mut attributes = Vec::new(alloc);
     push_bounds(alloc, spaces, search, &mut attributes)?;
@@ -139,7 +141,7 @@ fn push_bounds(
 ) -> Result<(), NoMemory>
     requires { ServeSearch spaces.now search.now }
     ensures { OnOk result (attributes.new.items
-        ≡ attributes.old.items ++ attributes_of (bounds_rows spaces.now search.now)) }
+        ≡ attributes.old.items ++ attributes_of (values_of_bounds spaces.now search.now)) }
 {
     push_filter(
         alloc,

@@ -3,7 +3,7 @@ ghost use Rattle.std.specs.Prelude.{◌≡◌, [], codes, map, IfOk};
 ghost use Rattle.std.specs.List.{AllByRecursion};
 ghost use Rattle.ifmap_requests.specs.declared.publish_ops.PublishOp.TheVariants as publish;
 ghost use Rattle.ifmap_requests.specs.declared.requests.SubscribeOp.TheVariants as subscribe;
-ghost use Rattle.ifmap_writing.specs.Attributes.{lifetime_rows, name_rows};
+ghost use Rattle.ifmap_writing.specs.Attributes.{values_of_lifetime, values_of_name};
 ghost use Rattle.ifmap_elem.specs.Building.{as_children};
 ghost use Rattle.ifmap_writing.specs.RequestElements.{part_element, publish_element, published_children, subscribe_element};
 ghost use Rattle.ifmap_writing.specs.RequestSpaces.{ServeFilter, ServePublish, ServeSearch, ServeSubscribe};
@@ -59,7 +59,7 @@ fn update_element(
     forever: bool,
 ) -> Result<Element, NoMemory>
     ensures { IfOk result (λ element. element ≡ part_element (codes "update")
-        (lifetime_rows forever) (published_children item.now elements.now)) }
+        (values_of_lifetime forever) (published_children item.now elements.now)) }
 {
     let attributes = lifetime_attributes(alloc, forever)?;
     let children = published_children(alloc, item, elements)?;
@@ -140,8 +140,8 @@ fn subscription_element(
 }
 
 fn end_element(alloc: Global, name: &Text) -> Result<Element, NoMemory>
-    ensures { IfOk result (λ element. element ≡ part_element (codes "delete") (name_rows name.now)
-        []) }
+    ensures { IfOk result (λ element.
+        element ≡ part_element (codes "delete") (values_of_name name.now) []) }
 {
     let attributes = name_attributes(alloc, name)?;
     Element::with_local(alloc, "delete", attributes, Vec::new(alloc))

@@ -3,7 +3,7 @@ ghost use Rattle.std.specs.Prelude.{◌≡◌, [], IfOk};
 ghost use Rattle.ifmap_requests.specs.ifmap_envelopes.Envelopes.{element_around, in_envelope};
 ghost use Rattle.ifmap_requests.specs.ifmap_envelopes.Spaces.{ifmap_space};
 ghost use Rattle.ifmap_writing.specs.RequestElements.{asking_element, element_in, request_bytes, request_element};
-ghost use Rattle.ifmap_writing.specs.Attributes.{session_rows};
+ghost use Rattle.ifmap_writing.specs.Attributes.{values_of_session};
 ghost use Rattle.ifmap_writing.specs.RequestSpaces.{ServeRequest, request_spaces};
 
 use crate::attributes::{
@@ -83,7 +83,7 @@ fn element_in(alloc: Global, spaces: &Many<Text>, request: &Request) -> Result<E
 // A request that has the id of a session alone.
 fn session_element(alloc: Global, local: &str, session: &Text) -> Result<Element, NoMemory>
     ensures { IfOk result (λ element.
-        element ≡ asking_element local.now (session_rows session.now) []) }
+        element ≡ asking_element local.now (values_of_session session.now) []) }
 {
     asking_element(
         alloc,

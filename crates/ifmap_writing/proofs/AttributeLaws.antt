@@ -1,5 +1,5 @@
--- Attributes that are written by rows. Plan: (1) the value of an attribute is that of its row, or of none; (2) there are no others;
--- (3) where the names of rows rise, their attributes are in order, and no two have one name; (4) they fit.
+-- Attributes by their named values. Plan: (1) the value of an attribute is the one under its name, or none; (2) there are no others;
+-- (3) where the names rise, the attributes are in order, and no two have one name; (4) they fit.
 use Rattle.std.proofs.Common.{◌≡◌, ◌≢◌, ◌∙◌, ◌++◌, ◌&&◌, ℕ, Bool, true, false, not, cond, List, [], ◌∷◌, Option, None, Some, IfSome, codes}
 use Rattle.std.proofs.Common.{map, inl, inr, refl, ap, sym}
 use Rattle.std.proofs.lemmas.Bool.Decides.{not_from_Decides}
@@ -37,25 +37,26 @@ pub or_none : (o : Option (List ℕ)) → or_else o None ≡ o
 or_none None = refl
 or_none (Some value) = refl
 
--- the value of the first row of that name which has one
-abbrev pub row_value : List ℕ → List NamedValue → Option (List ℕ)
-row_value local [] = None
-row_value local (r ∷ rows) = if bytes_eq r.local local then or_else r.value (row_value local rows) else row_value local rows
+-- the first value under that name, where one has a value
+abbrev pub value_named : List ℕ → List NamedValue → Option (List ℕ)
+value_named local [] = None
+value_named local (r ∷ values) = if bytes_eq r.local local then or_else r.value (value_named local values) else value_named local values
 
 -- the value of the attribute
-abbrev found : List ℕ → List Attribute → Option (List ℕ)
-found local attributes = option_map (λ (a : Attribute). a.value) (find (λ (a : Attribute). is_bare local a.name) attributes)
+abbrev bare_value : List ℕ → List Attribute → Option (List ℕ)
+bare_value local attributes = option_map (λ (a : Attribute). a.value) (find (λ (a : Attribute). is_bare local a.name) attributes)
 
 one_found : (local l : List ℕ) (o : Option (List ℕ)) (more : List Attribute)
-    → found local (written_attribute l o ++ more) ≡ (if bytes_eq l local then or_else o (found local more) else found local more)
+    → bare_value local (written_attribute l o ++ more)
+    ≡ (if bytes_eq l local then or_else o (bare_value local more) else bare_value local more)
 one_found local l None more = elim (cases_Bool (bytes_eq l local)) [ inl e ↦ rw e refl | inr e ↦ rw e refl ]
 one_found local l (Some value) more = elim (cases_Bool (bytes_eq l local)) [ inl e ↦ rw e refl | inr e ↦ rw e refl ]
 
-pub value_found : (local : List ℕ) (rows : List NamedValue) → found local (attributes_of rows) ≡ row_value local rows
+pub value_found : (local : List ℕ) (values : List NamedValue) → bare_value local (attributes_of values) ≡ value_named local values
 value_found local [] = refl
-value_found local (r ∷ rows) =
-    one_found local r.local r.value (attributes_of rows)
-    ∙ ap (λ (o : Option (List ℕ)). if bytes_eq r.local local then or_else r.value o else o) (value_found local rows)
+value_found local (r ∷ values) =
+    one_found local r.local r.value (attributes_of values)
+    ∙ ap (λ (o : Option (List ℕ)). if bytes_eq r.local local then or_else r.value o else o) (value_found local values)
 
 -- ---- (2) no others
 
@@ -66,15 +67,15 @@ module _ (locals : List (List ℕ)) where
   known_one l (Some value) more known others =
       and_from (list_any (bytes_eq l) locals) (list_all (is_known locals) more) known others
 
-  -- each row has one of these names
-  abbrev pub rows_known : List NamedValue → Bool
-  rows_known rows = list_all (λ r. list_any (bytes_eq r.local) locals) rows
+  -- each has one of these names
+  abbrev pub values_known : List NamedValue → Bool
+  values_known values = list_all (λ r. list_any (bytes_eq r.local) locals) values
 
-  pub only_rows : (rows : List NamedValue) → rows_known rows ≡ true → list_all (is_known locals) (attributes_of rows) ≡ true
-  only_rows [] h = refl
-  only_rows (r ∷ rows) h =
-      let parts = and_parts (list_any (bytes_eq r.local) locals) (rows_known rows) h in
-      known_one r.local r.value (attributes_of rows) parts.0 (only_rows rows parts.1)
+  pub only_values : (values : List NamedValue) → values_known values ≡ true → list_all (is_known locals) (attributes_of values) ≡ true
+  only_values [] h = refl
+  only_values (r ∷ values) h =
+      let parts = and_parts (list_any (bytes_eq r.local) locals) (values_known values) h in
+      known_one r.local r.value (attributes_of values) parts.0 (only_values values parts.1)
 
 -- ---- (3) order
 
@@ -84,7 +85,7 @@ comes_before l r = is_lt (slice_cmp nat_cmp l r.local)
 -- each name comes before those after it
 abbrev pub rises : List NamedValue → Bool
 rises [] = true
-rises (r ∷ rows) = list_all (comes_before r.local) rows && rises rows
+rises (r ∷ values) = list_all (comes_before r.local) values && rises values
 
 not_after : (l s v w : List ℕ) → is_lt (slice_cmp nat_cmp l s) ≡ true
     → is_gt (attribute_order (bare_attribute l v) (bare_attribute s w)) ≡ false
@@ -100,24 +101,24 @@ module _ (l v : List ℕ) where
       ap (λ b. cond b (bare_attribute s w ∷ insert attribute_order (bare_attribute l v) more)
       (bare_attribute l v ∷ (bare_attribute s w ∷ more))) (not_after l s v w h)
 
-  first_placed : (rows : List NamedValue) → list_all (comes_before l) rows ≡ true
-      → insert attribute_order (bare_attribute l v) (attributes_of rows) ≡ bare_attribute l v ∷ attributes_of rows
+  first_placed : (values : List NamedValue) → list_all (comes_before l) values ≡ true
+      → insert attribute_order (bare_attribute l v) (attributes_of values) ≡ bare_attribute l v ∷ attributes_of values
   first_placed [] h = refl
-  first_placed (r ∷ rows) h =
-      let parts = and_parts (comes_before l r) (list_all (comes_before l) rows) h in
-      placed_one r.local r.value (attributes_of rows) parts.0 (first_placed rows parts.1)
+  first_placed (r ∷ values) h =
+      let parts = and_parts (comes_before l r) (list_all (comes_before l) values) h in
+      placed_one r.local r.value (attributes_of values) parts.0 (first_placed values parts.1)
 
-sorted_one : (l : List ℕ) (o : Option (List ℕ)) (rows : List NamedValue) → list_all (comes_before l) rows ≡ true
-    → sort_attributes (attributes_of rows) ≡ attributes_of rows
-    → sort_attributes (written_attribute l o ++ attributes_of rows) ≡ written_attribute l o ++ attributes_of rows
-sorted_one l None rows h sorted = sorted
-sorted_one l (Some v) rows h sorted = ap (insert attribute_order (bare_attribute l v)) sorted ∙ first_placed l v rows h
+sorted_one : (l : List ℕ) (o : Option (List ℕ)) (values : List NamedValue) → list_all (comes_before l) values ≡ true
+    → sort_attributes (attributes_of values) ≡ attributes_of values
+    → sort_attributes (written_attribute l o ++ attributes_of values) ≡ written_attribute l o ++ attributes_of values
+sorted_one l None values h sorted = sorted
+sorted_one l (Some v) values h sorted = ap (insert attribute_order (bare_attribute l v)) sorted ∙ first_placed l v values h
 
-pub rows_sorted : (rows : List NamedValue) → rises rows ≡ true → sort_attributes (attributes_of rows) ≡ attributes_of rows
-rows_sorted [] h = refl
-rows_sorted (r ∷ rows) h =
-    let parts = and_parts (list_all (comes_before r.local) rows) (rises rows) h in
-    sorted_one r.local r.value rows parts.0 (rows_sorted rows parts.1)
+pub values_sorted : (values : List NamedValue) → rises values ≡ true → sort_attributes (attributes_of values) ≡ attributes_of values
+values_sorted [] h = refl
+values_sorted (r ∷ values) h =
+    let parts = and_parts (list_all (comes_before r.local) values) (rises values) h in
+    sorted_one r.local r.value values parts.0 (values_sorted values parts.1)
 
 abbrev name_of : Attribute → Name
 name_of a = a.name
@@ -132,23 +133,23 @@ apart_one : (l s : List ℕ) (o : Option (List ℕ)) (more : List Attribute) →
 apart_one l s None more h others = others
 apart_one l s (Some w) more h others = (apart_names l s h, others)
 
-apart_rows : (l : List ℕ) (rows : List NamedValue) → list_all (comes_before l) rows ≡ true
-    → AllByRecursion (λ n. bare_name l ≢ n) (map name_of (attributes_of rows))
-apart_rows l [] h = tt
-apart_rows l (r ∷ rows) h =
-    let parts = and_parts (comes_before l r) (list_all (comes_before l) rows) h in
-    apart_one l r.local r.value (attributes_of rows) parts.0 (apart_rows l rows parts.1)
+apart_values : (l : List ℕ) (values : List NamedValue) → list_all (comes_before l) values ≡ true
+    → AllByRecursion (λ n. bare_name l ≢ n) (map name_of (attributes_of values))
+apart_values l [] h = tt
+apart_values l (r ∷ values) h =
+    let parts = and_parts (comes_before l r) (list_all (comes_before l) values) h in
+    apart_one l r.local r.value (attributes_of values) parts.0 (apart_values l values parts.1)
 
 differ_one : (l : List ℕ) (o : Option (List ℕ)) (more : List Attribute) → AllByRecursion (λ n. bare_name l ≢ n) (map name_of more)
     → AllDiffer (map name_of more) → AllDiffer (map name_of (written_attribute l o ++ more))
 differ_one l None more other d = d
 differ_one l (Some v) more other d = (other, d)
 
-pub rows_differ : (rows : List NamedValue) → rises rows ≡ true → AllDiffer (map name_of (attributes_of rows))
-rows_differ [] h = tt
-rows_differ (r ∷ rows) h =
-    let parts = and_parts (list_all (comes_before r.local) rows) (rises rows) h in
-    differ_one r.local r.value (attributes_of rows) (apart_rows r.local rows parts.0) (rows_differ rows parts.1)
+pub values_differ : (values : List NamedValue) → rises values ≡ true → AllDiffer (map name_of (attributes_of values))
+values_differ [] h = tt
+values_differ (r ∷ values) h =
+    let parts = and_parts (list_all (comes_before r.local) values) (rises values) h in
+    differ_one r.local r.value (attributes_of values) (apart_values r.local values parts.0) (values_differ values parts.1)
 
 -- ---- (4) they fit
 
@@ -172,8 +173,8 @@ plain_fits (c ∷ cs) h =
 abbrev pub HasFitValue : NamedValue → Type 0
 HasFitValue r = IfSome r.value IsCharacters
 
-abbrev pub rows_plain : List NamedValue → Bool
-rows_plain rows = list_all (λ r. is_plain_local r.local) rows
+abbrev pub values_plain : List NamedValue → Bool
+values_plain values = list_all (λ r. is_plain_local r.local) values
 
 fit_one : (l : List ℕ) (o : Option (List ℕ)) (more : List Attribute) → is_plain_local l ≡ true → IfSome o IsCharacters
     → AllByRecursion IsFitAttribute more → AllByRecursion IsFitAttribute (written_attribute l o ++ more)
@@ -188,9 +189,9 @@ fit_one l (Some v) more plain value others =
       others,
     )
 
-pub rows_fit : (rows : List NamedValue) → rows_plain rows ≡ true → AllByRecursion HasFitValue rows
-    → AllByRecursion IsFitAttribute (attributes_of rows)
-rows_fit [] plain values = tt
-rows_fit (r ∷ rows) plain values =
-    let parts = and_parts (is_plain_local r.local) (rows_plain rows) plain in
-    fit_one r.local r.value (attributes_of rows) parts.0 values.0 (rows_fit rows parts.1 values.1)
+pub values_fit : (values : List NamedValue) → values_plain values ≡ true → AllByRecursion HasFitValue values
+    → AllByRecursion IsFitAttribute (attributes_of values)
+values_fit [] plain fit = tt
+values_fit (r ∷ values) plain fit =
+    let parts = and_parts (is_plain_local r.local) (values_plain values) plain in
+    fit_one r.local r.value (attributes_of values) parts.0 fit.0 (values_fit values parts.1 fit.1)
