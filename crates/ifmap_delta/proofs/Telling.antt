@@ -26,10 +26,10 @@ use Rattle.ifmap_meta.specs.declared.stored.Stored.{Stored}
 use Rattle.ifmap_search.specs.declared.results.Entry.{Entry}
 use Rattle.ifmap_search.specs.declared.searches.Search.{Search}
 use Rattle.ifmap_view.specs.declared.attachments.Attachment.{Attachment}
-use Rattle.ifmap_view.specs.Attachments.{IsGraph, stored_bytes, stored_order}
+use Rattle.ifmap_view.specs.Attachments.{IsGraph, row_on, stored_bytes, stored_order}
 use Rattle.ifmap_view.specs.Rows.{stored_on}
 use Rattle.ifmap_fresh.specs.Fresh.{fresh, is_found, is_looked_at}
-use Rattle.ifmap_fresh.specs.Gathered.{stored_entry, gathered_rows, has_item, row_at}
+use Rattle.ifmap_fresh.specs.Gathered.{stored_entry, gathered_rows, has_item}
 use Rattle.ifmap_folds.specs.Differences.{difference, entry_bytes, has_entry, same_entry}
 use Rattle.ifmap_delta.specs.Shown.{shown_on}
 use Rattle.ifmap_delta.specs.Sights.{ViewSeen}
@@ -57,21 +57,21 @@ tied_itself : (t : Stored) → eq_by_cmp stored_order t t ≡ true
 tied_itself t = ap is_eq (slice_cmp-same (stored_bytes t) (stored_bytes t) refl)
 
 -- what is left out on one item, as a filter of what is stored there
-none_left : (x : Item) (q : Stored → Bool) (p : Attachment → Bool) → ((t : Stored) → p (row_at x t) ≡ false) → (xs : List Stored)
-    → [] ≡ map row_entry (filter p (map (row_at x) xs))
+none_left : (x : Item) (q : Stored → Bool) (p : Attachment → Bool) → ((t : Stored) → p (row_on x t) ≡ false) → (xs : List Stored)
+    → [] ≡ map row_entry (filter p (map (row_on x) xs))
 none_left x q p e [] = refl
 none_left x q p e (t ∷ ts) = rw (e t) (none_left x q p e ts)
 
-some_left : (x : Item) (q : Stored → Bool) (p : Attachment → Bool) → ((t : Stored) → p (row_at x t) ≡ q t) → (xs : List Stored)
-    → map (stored_entry x) (filter q xs) ≡ map row_entry (filter p (map (row_at x) xs))
+some_left : (x : Item) (q : Stored → Bool) (p : Attachment → Bool) → ((t : Stored) → p (row_on x t) ≡ q t) → (xs : List Stored)
+    → map (stored_entry x) (filter q xs) ≡ map row_entry (filter p (map (row_on x) xs))
 some_left x q p e [] = refl
 some_left x q p e (t ∷ ts) = elim (cases_Bool (q t)) [
   | inl u ↦ rw (u, e t ∙ u) (ap (λ l. stored_entry x t ∷ l) (some_left x q p e ts))
   | inr u ↦ rw (u, e t ∙ u) (some_left x q p e ts)
 ]
 
-one_item : (x : Item) (b : Bool) (q : Stored → Bool) (p : Attachment → Bool) → ((t : Stored) → p (row_at x t) ≡ (b && q t))
-    → (xs : List Stored) → map (stored_entry x) (filter q (cond b xs [])) ≡ map row_entry (filter p (map (row_at x) xs))
+one_item : (x : Item) (b : Bool) (q : Stored → Bool) (p : Attachment → Bool) → ((t : Stored) → p (row_on x t) ≡ (b && q t))
+    → (xs : List Stored) → map (stored_entry x) (filter q (cond b xs [])) ≡ map row_entry (filter p (map (row_on x) xs))
 one_item x true q p e xs = some_left x q p e xs
 one_item x false q p e xs = none_left x q p e xs
 
@@ -104,9 +104,9 @@ module _ (tells : BytesTellIdentifiers) (one other : ViewSeen) (s : Search) (gra
       (one_item x (is_looked_at one.rows s x) (λ t. is_met t && not (has_met s.result_filter (shown_on other.rows s x) t)) is_lacked
       (λ t. refl)
       (stored_on x one.rows))
-      ∙ ap (λ l. map row_entry (filter is_lacked (map (row_at x) (stored_on x one.rows))) ++ l) (joined xs)
-      ∙ sym (map-append row_entry (filter is_lacked (map (row_at x) (stored_on x one.rows))) (filter is_lacked (gathered_rows one.rows xs)))
-      ∙ sym (ap (map row_entry) (filter-append is_lacked (map (row_at x) (stored_on x one.rows)) (gathered_rows one.rows xs)))
+      ∙ ap (λ l. map row_entry (filter is_lacked (map (row_on x) (stored_on x one.rows))) ++ l) (joined xs)
+      ∙ sym (map-append row_entry (filter is_lacked (map (row_on x) (stored_on x one.rows))) (filter is_lacked (gathered_rows one.rows xs)))
+      ∙ sym (ap (map row_entry) (filter-append is_lacked (map (row_on x) (stored_on x one.rows)) (gathered_rows one.rows xs)))
 
   in_other : (r : Attachment) → IsCanonItem r.item
       → has_entry (fresh other.rows s) (row_entry r) ≡ has_met s.result_filter (shown_on other.rows s r.item) r.stored

@@ -30,12 +30,12 @@ use Rattle.ifmap_region.specs.Walks.{AreDepths}
 use Rattle.ifmap_search.specs.declared.searches.Search.{Search}
 use Rattle.ifmap_view.specs.declared.attachments.Attachment.{Attachment}
 use Rattle.ifmap_view.specs.declared.views.LinkSeen.{LinkSeen}
-use Rattle.ifmap_view.specs.Attachments.{IsGraph}
+use Rattle.ifmap_view.specs.Attachments.{IsGraph, row_on}
 use Rattle.ifmap_view.specs.Rows.{stored_between, stored_linked, stored_on}
 use Rattle.ifmap_view.specs.Views.{IsView}
 use Rattle.ifmap_fresh.specs.Collected.{AreLookedAt, is_below, is_passed, item_along, item_to, item_where, items_of_number, items_of_numbers}
 use Rattle.ifmap_fresh.specs.Fresh.{fresh, is_found, is_looked_at}
-use Rattle.ifmap_fresh.specs.Gathered.{entries_of, entries_on, stored_entry, gathered_rows, has_item, row_at}
+use Rattle.ifmap_fresh.specs.Gathered.{entries_of, entries_on, stored_entry, gathered_rows, has_item}
 use Rattle.ifmap_fresh.specs.Items.{item_alone, pair_at}
 use Rattle.ifmap_fresh.specs.Linking.{end_where, is_terminal_at}
 use Rattle.ifmap_fresh.specs.Matching.{is_match, is_terminal, one_meets}
@@ -250,7 +250,7 @@ module _ (by : Option Filter) where
   abbrev meets_filter : Attachment → Bool
   meets_filter r = meets_optional by r.stored.element
 
-  one_item : (i : Item) (xs : List Stored) → entries_of by i xs ≡ map row_entry (filter meets_filter (map (row_at i) xs))
+  one_item : (i : Item) (xs : List Stored) → entries_of by i xs ≡ map row_entry (filter meets_filter (map (row_on i) xs))
   one_item i [] = refl
   one_item i (x ∷ xs) = elim (cases_Bool (meets_optional by x.element)) [
     | inl t ↦ rw t (ap (λ l. stored_entry i x ∷ l) (one_item i xs))
@@ -262,9 +262,9 @@ module _ (by : Option Filter) where
   entries_gathered rows [] = refl
   entries_gathered rows (i ∷ is) =
       ap (λ l. l ++ entries_on by rows is) (one_item i (stored_on i rows))
-      ∙ ap (λ l. map row_entry (filter meets_filter (map (row_at i) (stored_on i rows))) ++ l) (entries_gathered rows is)
-      ∙ sym (map-append row_entry (filter meets_filter (map (row_at i) (stored_on i rows))) (filter meets_filter (gathered_rows rows is)))
-      ∙ sym (ap (map row_entry) (filter-append meets_filter (map (row_at i) (stored_on i rows)) (gathered_rows rows is)))
+      ∙ ap (λ l. map row_entry (filter meets_filter (map (row_on i) (stored_on i rows))) ++ l) (entries_gathered rows is)
+      ∙ sym (map-append row_entry (filter meets_filter (map (row_on i) (stored_on i rows))) (filter meets_filter (gathered_rows rows is)))
+      ∙ sym (ap (map row_entry) (filter-append meets_filter (map (row_on i) (stored_on i rows)) (gathered_rows rows is)))
 
 all_of : (P : Attachment → Type 0) (rs : List Attachment) → ((r : Attachment) → Has rs r → P r) → AllByRecursion P rs
 all_of P [] f = tt

@@ -9,6 +9,7 @@ use Rattle.ifmap_ident.specs.declared.items.Item.{Item}
 use Rattle.ifmap_ident.specs.Items.{item_order, same_item}
 use Rattle.ifmap_meta.specs.declared.stored.Stored.{Stored}
 use Rattle.ifmap_search.specs.declared.results.Entry.{Entry}
+use Rattle.ifmap_view.specs.Attachments.{row_on}
 use Rattle.ifmap_view.specs.declared.attachments.Attachment.{Attachment}
 use Rattle.ifmap_view.specs.Rows.{stored_on}
 
@@ -20,12 +21,9 @@ IsGrouped (r ∷ rs) = AllByRecursion (λ s. is_gt (item_order r.item s.item) �
 abbrev pub has_item : List Item → Item → Bool
 has_item items x = list_any (λ i. same_item x i) items
 
-abbrev pub row_at : Item → Stored → Attachment
-row_at item stored = record { item = item; stored = stored }
-
 -- what stands on each of the items, one item after the other
 abbrev pub gathered_rows : List Attachment → List Item → List Attachment
-gathered_rows rows items = flat_map (λ i. map (row_at i) (stored_on i rows)) items
+gathered_rows rows items = flat_map (λ i. map (row_on i) (stored_on i rows)) items
 
 abbrev pub stored_entry : Item → Stored → Entry
 stored_entry item stored = record { item = item; element = stored.element }

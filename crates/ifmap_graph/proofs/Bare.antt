@@ -12,10 +12,11 @@ use Rattle.ifmap_meta.specs.declared.stored.Stored.{Stored}
 use Rattle.ifmap_graph.specs.declared.shelves.Shelf.{Shelf}
 use Rattle.ifmap_graph.specs.declared.shelves.Shelves.{Shelves}
 use Rattle.ifmap_graph.specs.Drafted.{AreBare, DraftsWithin, NoDraft}
-use Rattle.ifmap_graph.specs.Shelved.{AreShelved, HasDraft, list_at, row_on, rows_by, rows_on_side}
+use Rattle.ifmap_graph.specs.Shelved.{AreShelved, HasDraft, list_at, rows_by, rows_on_side}
 use Rattle.ifmap_graph.specs.Sides.{list_next, list_now}
 use Rattle.ifmap_graph.proofs.Following.{entry_hits}
 use Rattle.ifmap_graph.proofs.Shelving.{Entries}
+use Rattle.ifmap_view.specs.Attachments.{row_on}
 
 pub list_bare : (o : Option Shelf) → NoDraft o → list_at list_next o ≡ list_at list_now o
 list_bare None n = refl

@@ -6,9 +6,10 @@ use Rattle.ifmap_ident.specs.declared.items.Item.{Item}
 use Rattle.ifmap_ident.specs.declared.items.Item.TheVariants.{One, Pair}
 use Rattle.ifmap_ident.specs.Items.{item_order, same_item}
 use Rattle.ifmap_meta.specs.declared.stored.Stored.{Stored}
+use Rattle.ifmap_view.specs.Attachments.{row_on}
 use Rattle.ifmap_view.specs.declared.attachments.Attachment.{Attachment}
 use Rattle.ifmap_graph.specs.Counted.{count_links, is_link, items_in, link_once, links_among}
-use Rattle.ifmap_graph.specs.Shelved.{ItemsRise, row_on, rows_by}
+use Rattle.ifmap_graph.specs.Shelved.{ItemsRise, rows_by}
 use Rattle.ifmap_graph.proofs.Finding.{first_rises}
 use Rattle.ifmap_ident.specs.SameLaws.{item_itself, greater_item_differs}
 

@@ -14,9 +14,10 @@ use Rattle.std.specs.Cmp.{Equal-is}
 use Rattle.ifmap_ident.specs.declared.items.Item.{Item}
 use Rattle.ifmap_ident.specs.Items.{item_order, same_item}
 use Rattle.ifmap_meta.specs.declared.stored.Stored.{Stored}
+use Rattle.ifmap_view.specs.Attachments.{row_on}
 use Rattle.ifmap_view.specs.declared.attachments.Attachment.{Attachment}
 use Rattle.ifmap_view.specs.Rows.{stored_on}
-use Rattle.ifmap_graph.specs.Shelved.{ItemsRise, row_on, rows_by}
+use Rattle.ifmap_graph.specs.Shelved.{ItemsRise, rows_by}
 use Rattle.ifmap_graph.proofs.Ordered.{above_tied}
 use Rattle.ifmap_ident.specs.SameLaws.{ties, greater_item_differs}
 

@@ -12,8 +12,8 @@ use Rattle.ifmap_meta.specs.declared.stored.Stored.{Stored}
 use Rattle.ifmap_meta.specs.Keys.{same_key}
 use Rattle.ifmap_plans.specs.Lists.{IsList}
 use Rattle.ifmap_view.specs.declared.attachments.Attachment.{Attachment}
-use Rattle.ifmap_view.specs.Attachments.{IsGraph, attachment_order, of_one_key, stored_order}
-use Rattle.ifmap_graph.specs.Shelved.{ItemsRise, row_on, rows_by}
+use Rattle.ifmap_view.specs.Attachments.{IsGraph, attachment_order, of_one_key, row_on, stored_order}
+use Rattle.ifmap_graph.specs.Shelved.{ItemsRise, rows_by}
 use Rattle.ifmap_graph.proofs.Finding.{first_rises}
 use Rattle.ifmap_lemmas.specs.Pairwise.{Pairwise, pairwise_onto, pairwise_both}
 use Rattle.ifmap_ident.specs.SameLaws.{items_total}

@@ -10,6 +10,7 @@ use Rattle.ifmap_ident.specs.declared.items.Item.{Item}
 use Rattle.ifmap_ident.specs.declared.items.Item.TheVariants.{One, Pair}
 use Rattle.ifmap_ident.specs.Identifiers.{identifier_bytes, identifier_order}
 use Rattle.ifmap_pool.specs.Holdings.{Holdings, IsPool, Names, entry_at, key_at}
+use Rattle.ifmap_view.specs.Attachments.{row_on}
 use Rattle.ifmap_view.specs.declared.views.LinkSeen.{LinkSeen}
 use Rattle.ifmap_view.specs.Rows.{stored_linked}
 use Rattle.ifmap_view.specs.Views.{IsView}
@@ -20,7 +21,7 @@ use Rattle.ifmap_graph.specs.Inside.{IsSide, shown_shelves}
 use Rattle.ifmap_graph.specs.Joined.{AreJoined, AreSingle, IsNumber, joined_pair, two_of}
 use Rattle.ifmap_graph.specs.Linked.{JoinsNumbers}
 use Rattle.ifmap_graph.specs.Named.{AreEnds, AreIdentifiers, AreNumbered, HasEnds, uses_of, uses_in}
-use Rattle.ifmap_graph.specs.Shelved.{IsPlaced, StoredSide, list_at, row_on, rows_by}
+use Rattle.ifmap_graph.specs.Shelved.{IsPlaced, StoredSide, list_at, rows_by}
 use Rattle.ifmap_graph.proofs.Alike.{alike_equal, equal_alike}
 use Rattle.ifmap_graph.proofs.Graphs.{graph_is}
 use Rattle.ifmap_graph.proofs.Viewed.{alone, apart, each, handled, linked, only}

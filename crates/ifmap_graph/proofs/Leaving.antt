@@ -20,10 +20,11 @@ use Rattle.ifmap_ident.specs.Items.{IsCanonItem, item_order}
 use Rattle.ifmap_pool.specs.Holdings.{once}
 use Rattle.ifmap_graph.specs.declared.shelves.Shelf.{Shelf}
 use Rattle.ifmap_graph.specs.Named.{uses_of, uses_in}
-use Rattle.ifmap_graph.specs.Shelved.{IsPlaced, ItemsRise, StoredSide, list_at, row_on, rows_by}
+use Rattle.ifmap_graph.specs.Shelved.{IsPlaced, ItemsRise, StoredSide, list_at, rows_by}
 use Rattle.ifmap_graph.proofs.Alike.{Alike, one_tied, order_alike, pair_tied}
 use Rattle.ifmap_graph.proofs.Finding.{all_left, leaves}
 use Rattle.ifmap_graph.proofs.Shelving.{Entries, slots_of}
+use Rattle.ifmap_view.specs.Attachments.{row_on}
 
 swapped : (x y z : ℕ) → x + (y + z) ≡ y + (x + z)
 swapped x y z = omega arith

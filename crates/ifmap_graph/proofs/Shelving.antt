@@ -14,10 +14,11 @@ use Rattle.ifmap_lemmas.specs.Having.{Has}
 use Rattle.ifmap_ident.specs.declared.items.Item.{Item}
 use Rattle.ifmap_ident.specs.Items.{IsCanonItem, item_order}
 use Rattle.ifmap_graph.specs.declared.shelves.Shelf.{Shelf}
-use Rattle.ifmap_graph.specs.Shelved.{IsPlaced, ItemsRise, StoredSide, list_at, row_on, rows_by}
+use Rattle.ifmap_graph.specs.Shelved.{IsPlaced, ItemsRise, StoredSide, list_at, rows_by}
 use Rattle.ifmap_graph.proofs.Finding.{all_inserted, inserted, nothing_rises}
 use Rattle.ifmap_lemmas.specs.Numbers.{equal_numbers}
 use Rattle.ifmap_lemmas.specs.Rising.{to_distinct}
+use Rattle.ifmap_view.specs.Attachments.{row_on}
 
 abbrev pub Entries : Type 0
 Entries = List (Item × ℕ)

@@ -14,6 +14,7 @@ use Rattle.ifmap_ident.specs.Identifiers.{identifier_order}
 use Rattle.ifmap_ident.specs.Items.{IsCanonItem, identifiers_of}
 use Rattle.ifmap_meta.specs.declared.stored.Stored.{Stored}
 use Rattle.ifmap_pool.specs.Holdings.{Holdings, IsHeld, IsPool, Names, holds_at, key_at, once}
+use Rattle.ifmap_view.specs.Attachments.{row_on}
 use Rattle.ifmap_view.specs.declared.attachments.Attachment.{Attachment}
 use Rattle.ifmap_view.specs.declared.views.LinkSeen.{LinkSeen}
 use Rattle.ifmap_graph.specs.declared.ends.ItemEnds.{ItemEnds}
@@ -24,7 +25,7 @@ use Rattle.ifmap_graph.specs.Inside.{IsInside, IsOwn}
 use Rattle.ifmap_graph.specs.Named.{AreEnds, HasEnds, uses_of, uses_in}
 use Rattle.ifmap_graph.specs.Releasing.{AreFilled}
 use Rattle.ifmap_graph.specs.Seen.{AreUsed, IsAttached, IsHeldBeside, IsLean, rows_now}
-use Rattle.ifmap_graph.specs.Shelved.{list_at, row_on, rows_on_side}
+use Rattle.ifmap_graph.specs.Shelved.{list_at, rows_on_side}
 use Rattle.ifmap_graph.specs.Sides.{Sides, list_now}
 use Rattle.ifmap_graph.specs.Waits.{waits_on}
 use Rattle.ifmap_graph.proofs.Alike.{equal_alike}

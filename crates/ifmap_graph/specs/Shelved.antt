@@ -8,14 +8,11 @@ use Rattle.slab.specs.Slab.{get}
 use Rattle.ifmap_ident.specs.declared.items.Item.{Item}
 use Rattle.ifmap_ident.specs.Items.{IsCanonItem, item_order}
 use Rattle.ifmap_meta.specs.declared.stored.Stored.{Stored}
+use Rattle.ifmap_view.specs.Attachments.{row_on}
 use Rattle.ifmap_view.specs.declared.attachments.Attachment.{Attachment}
 use Rattle.ifmap_graph.specs.declared.shelves.Shelf.{Shelf}
 use Rattle.ifmap_graph.specs.declared.shelves.Shelves.{Shelves}
 use Rattle.ifmap_graph.specs.Sides.{Sides}
-
--- a stored element on an item
-abbrev pub row_on : Item → Stored → Attachment
-row_on item x = record { item = item; stored = x }
 
 -- the attachments of entries, each of which has a list on its item
 abbrev pub rows_by : {X : Type 0} → (X → List Stored) → List (Item × X) → List Attachment

@@ -6,10 +6,15 @@ use Rattle.std.specs.List.Sorted.{IsStrictlySortedBy}
 use Rattle.std.specs.Ordering.{nat_cmp, on, then_cmp}
 use Rattle.std.specs.declared.cmp.Ordering.{Ordering}
 use Rattle.ifmap_elem.specs.Canonical.{canonical_bytes}
+use Rattle.ifmap_ident.specs.declared.items.Item.{Item}
 use Rattle.ifmap_ident.specs.Items.{IsCanonItem, item_order, same_item}
 use Rattle.ifmap_meta.specs.declared.stored.Stored.{Stored}
 use Rattle.ifmap_meta.specs.Keys.{same_key}
 use Rattle.ifmap_view.specs.declared.attachments.Attachment.{Attachment}
+
+-- a stored element on an item
+abbrev pub row_on : Item → Stored → Attachment
+row_on item stored = record { item = item; stored = stored }
 
 -- the canonical bytes of a stored element
 unfoldable pub stored_bytes : Stored → List ℕ

@@ -10,9 +10,9 @@ use Rattle.std.specs.declared.cmp.Ordering.TheVariants.{Less, Equal, Greater}
 use Rattle.ifmap_ident.specs.declared.items.Item.{Item}
 use Rattle.ifmap_ident.specs.Items.{IsCanonItem, item_order, items_tie, same_item}
 use Rattle.ifmap_view.specs.declared.attachments.Attachment.{Attachment}
-use Rattle.ifmap_view.specs.Attachments.{attachment_order}
+use Rattle.ifmap_view.specs.Attachments.{attachment_order, row_on}
 use Rattle.ifmap_view.specs.Rows.{stored_on}
-use Rattle.ifmap_fresh.specs.Gathered.{IsGrouped, gathered_rows, has_item, row_at}
+use Rattle.ifmap_fresh.specs.Gathered.{IsGrouped, gathered_rows, has_item}
 use Rattle.std.proofs.lemmas.Option.{none-some}
 use Rattle.ifmap_lemmas.specs.Having.{Has}
 use Rattle.ifmap_region.specs.Marks.{row_of}
@@ -69,7 +69,7 @@ without : (r : Attachment) (rs : List Attachment) (is : List Item) → has_item 
 without r rs [] h = refl
 without r rs (i ∷ is) h =
     let p : (same_item r.item i ≡ false) × (has_item is r.item ≡ false) = or_parts (same_item r.item i) (has_item is r.item) h
-    in rw p.0 (ap (λ l. map (row_at i) (stored_on i rs) ++ l) (without r rs is p.1))
+    in rw p.0 (ap (λ l. map (row_on i) (stored_on i rs) ++ l) (without r rs is p.1))
 
 -- and stands in front of all, where it is among them and at or below all
 gathers_first : BytesTellIdentifiers → (r : Attachment) (rs : List Attachment) (is : List Item) → AreCanon r.item
@@ -81,13 +81,13 @@ gathers_first tells r rs (i ∷ is) cr c a s h = elim (cases_Bool (same_item r.i
   | inl t ↦ let same : r.item ≡ i = same_item_is tells r.item i cr c.0 t
       in let rest : gathered_rows (r ∷ rs) is ≡ gathered_rows rs is = without r rs is
       (not_among r.item is (subst (λ k. AllByRecursion (λ y. item_order k y ≡ Less) is) (sym same) (first_rises i is s).0))
-      in rw t (ap (λ x. record { item = x; stored = r.stored } ∷ (map (row_at i) (stored_on i rs) ++ gathered_rows (r ∷ rs) is)) (sym same)
-      ∙ ap (λ l. r ∷ (map (row_at i) (stored_on i rs) ++ l)) rest)
+      in rw t (ap (λ x. record { item = x; stored = r.stored } ∷ (map (row_on i) (stored_on i rs) ++ gathered_rows (r ∷ rs) is)) (sym same)
+      ∙ ap (λ l. r ∷ (map (row_on i) (stored_on i rs) ++ l)) rest)
   | inr t ↦ let more : has_item is r.item ≡ true = rw t at h
       in let nothing : stored_on i rs ≡ [] = nothing_below i r.item rs (among_above tells i is c.1 r.item cr (first_rises i is s).0 more) a
-      in rw t (ap (λ l. map (row_at i) l ++ gathered_rows (r ∷ rs) is) nothing
+      in rw t (ap (λ l. map (row_on i) l ++ gathered_rows (r ∷ rs) is) nothing
       ∙ gathers_first tells r rs is cr c.1 a (first_rises i is s).1 more
-      ∙ ap (λ l. r ∷ (map (row_at i) l ++ gathered_rows rs is)) (sym nothing))
+      ∙ ap (λ l. r ∷ (map (row_on i) l ++ gathered_rows rs is)) (sym nothing))
 ]
 
 pub gathers : BytesTellIdentifiers → (rows : List Attachment) (items : List Item) → AllByRecursion (λ r. IsCanonItem r.item) rows
