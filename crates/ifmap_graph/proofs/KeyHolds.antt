@@ -146,16 +146,16 @@ module _ (old new : Holdings Identifier) (r : ℕ) (live : IsSome (entry_at old 
     | inr o ↦ (n.0, sym (others v o) ∙ n.1, n.2)
   ]
 
-  same_key : (o : Option (Identifier × ℕ)) → entry_at old r ≡ o → (k : Identifier) → key_at new r ≡ Some k → key_at old r ≡ Some k
-  same_key None is k e = let q : IsSome {T = Identifier × ℕ} None = subst (λ (o : Option (Identifier × ℕ)). IsSome o) is live in cc
-  same_key (Some x) is k e = elim (after x is) [
+  key_stays : (o : Option (Identifier × ℕ)) → entry_at old r ≡ o → (k : Identifier) → key_at new r ≡ Some k → key_at old r ≡ Some k
+  key_stays None is k e = let q : IsSome {T = Identifier × ℕ} None = subst (λ (o : Option (Identifier × ℕ)). IsSome o) is live in cc
+  key_stays (Some x) is k e = elim (after x is) [
     | inl gone ↦ absurd (none-some _ (sym (ap (option_map (λ y. y.0)) gone) ∙ e))
     | inr m ↦ ap (option_map (λ y. y.0)) is ∙ sym (ap (option_map (λ y. y.0)) m.1) ∙ e
   ]
 
   pub keys_before : (v : ℕ) (k : Identifier) → key_at new v ≡ Some k → key_at old v ≡ Some k
   keys_before v k e = elim (cases_eq v r) [
-    | inl q ↦ ap (key_at old) q ∙ same_key (entry_at old r) refl k (ap (key_at new) (sym q) ∙ e)
+    | inl q ↦ ap (key_at old) q ∙ key_stays (entry_at old r) refl k (ap (key_at new) (sym q) ∙ e)
     | inr o ↦ sym (ap (option_map (λ y. y.0)) (others v o)) ∙ e
   ]
 
