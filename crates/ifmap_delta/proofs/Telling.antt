@@ -34,7 +34,7 @@ use Rattle.ifmap_folds.specs.Differences.{difference, entry_bytes, has_entry, sa
 use Rattle.ifmap_delta.specs.Shown.{shown_on}
 use Rattle.ifmap_delta.specs.Sights.{ViewSeen}
 use Rattle.ifmap_delta.specs.Touched.{has_met, surplus_on}
-use Rattle.ifmap_fresh.specs.laws.GatheringLaws.{gathers, grouped, all_items, row_entry}
+use Rattle.ifmap_fresh.specs.laws.GatheringLaws.{gathers, items_grouped, all_items, row_entry}
 use Rattle.ifmap_fresh.specs.laws.SameLaws.{member}
 use Rattle.ifmap_ident.specs.SameLaws.{item_itself, BytesTellIdentifiers, same_item_is}
 
@@ -198,7 +198,7 @@ module _ (tells : BytesTellIdentifiers) (one other : ViewSeen) (s : Search) (gra
     difference_is =
         joined items
         ∙ ap (λ l. map row_entry (filter is_lacked l))
-        (gathers tells one.rows items graph.items (all_items items canon) (grouped one.rows graph.rising) rising)
+        (gathers tells one.rows items graph.items (all_items items canon) (items_grouped one.rows graph.rising) rising)
         ∙ ap (map row_entry) (filter_twice (λ (r : Attachment). has_item items r.item) is_lacked one.rows
         ∙ filter_alike (λ (r : Attachment). has_item items r.item && is_lacked r) (λ r. is_found one.rows s r && is_own_row r) one.rows
         (has_all (λ (r : Attachment). (has_item items r.item && is_lacked r) ≡ (is_found one.rows s r && is_own_row r)) one.rows pointwise)

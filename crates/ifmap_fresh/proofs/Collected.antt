@@ -41,7 +41,7 @@ use Rattle.ifmap_fresh.specs.Linking.{end_where, is_terminal_at}
 use Rattle.ifmap_fresh.specs.Matching.{is_match, is_terminal, one_meets}
 use Rattle.ifmap_fresh.specs.Numbered.{HaveMatchingLink, is_terminal_number}
 use Rattle.ifmap_fresh.specs.Reached.{is_expanded, is_reached}
-use Rattle.ifmap_fresh.specs.laws.GatheringLaws.{gathers, grouped, all_items, row_entry}
+use Rattle.ifmap_fresh.specs.laws.GatheringLaws.{gathers, items_grouped, all_items, row_entry}
 use Rattle.ifmap_fresh.specs.laws.JoiningLaws.{match_turned, some_there}
 use Rattle.ifmap_fresh.proofs.Levels.{expanded_walk, reached_by_walks, walk_expanded}
 use Rattle.ifmap_fresh.proofs.Meaning.{mark_walk, to_identifier, to_number, walk_mark}
@@ -295,6 +295,6 @@ module _ (tells : BytesTellIdentifiers) (rows : List Attachment) (s : Search) (i
   entries_are =
       entries_gathered s.result_filter rows items
       ∙ ap (λ l. map row_entry (filter (meets_filter s.result_filter) l))
-      (gathers tells rows items graph.items (all_items items are.canon) (grouped rows graph.rising) are.rising)
+      (gathers tells rows items graph.items (all_items items are.canon) (items_grouped rows graph.rising) are.rising)
       ∙ ap (map row_entry) (filter_twice (λ r. has_item items r.item) (meets_filter s.result_filter) rows
       ∙ filter_alike (λ r. has_item items r.item && meets_filter s.result_filter r) (is_found rows s) rows all_among)

@@ -13,14 +13,14 @@ module _ (old new : Item → ℕ) (item : Item) (before after : ℕ)
     (had : (x : Item) → is_at (item_order item) x ≡ true → old x ≡ before) (has : (x : Item) → is_at (item_order item) x ≡ true
     → new x ≡ after)
     (others : (x : Item) → is_at (item_order item) x ≡ false → new x ≡ old x) where
-  pub raised : after ≡ before + 1 → (x : Item) → new x ≡ times_in (item ∷ []) x + old x
-  raised more x = elim (cases_Bool (is_at (item_order item) x)) [
+  pub waits_one_more : after ≡ before + 1 → (x : Item) → new x ≡ times_in (item ∷ []) x + old x
+  waits_one_more more x = elim (cases_Bool (is_at (item_order item) x)) [
     | inl t ↦ rw t (omega (arith, had x t, has x t, more))
     | inr t ↦ rw t (omega (arith, others x t))
   ]
 
-  pub lowered : 0 < before → after ≡ before - 1 → (x : Item) → old x ≡ times_in (item ∷ []) x + new x
-  lowered some less x = elim (cases_Bool (is_at (item_order item) x)) [
+  pub waits_one_less : 0 < before → after ≡ before - 1 → (x : Item) → old x ≡ times_in (item ∷ []) x + new x
+  waits_one_less some less x = elim (cases_Bool (is_at (item_order item) x)) [
     | inl t ↦ rw t (omega (arith, had x t, has x t, less, some))
     | inr t ↦ rw t (omega (arith, others x t))
   ]

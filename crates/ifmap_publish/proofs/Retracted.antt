@@ -120,7 +120,7 @@ pub record IsSoFar (who : Who) (rows : List Attachment) (changes : List ItemChan
   pub up : IsStrictlySortedBy item_order keys
   pub carry : AllByRecursion (λ k. stored_on k rows ≢ []) keys
   pub within : AllByRecursion (λ k. IsAbove last k → ⊥) keys
-  pub told : (x : Item) → stored_on x rows ≢ [] → (IsAbove last x → ⊥) → list_any (same_item x) keys ≡ true
+  pub holds_all : (x : Item) → stored_on x rows ≢ [] → (IsAbove last x → ⊥) → list_any (same_item x) keys ≡ true
   pub count : steps ≡ before + length keys
 
 pub so_far_none : (who : Who) (rows : List Attachment) (changes : List ItemChange) (before : ℕ) → changes ≡ []
@@ -132,7 +132,7 @@ so_far_none who rows changes before is = record {
   up = nothing_rises item_order;
   carry = tt;
   within = tt;
-  told = λ x full under. absurd (under tt);
+  holds_all = λ x full under. absurd (under tt);
   count = omega arith;
 }
 
@@ -154,7 +154,7 @@ so_far_next who rows changes more last before steps after k so next canon one is
       within = both_all (λ j. item_order k j ≡ Less → ⊥) so.keys (k ∷ [])
           (all_weaker (λ j. item_order j k ≡ Less) (λ j. item_order k j ≡ Less → ⊥) (λ j l m. not_both items_total j k l m) so.keys below)
           ((λ m. not_itself m), tt);
-      told = λ x full under. list_any-append (same_item x) so.keys (k ∷ []) ∙ at x full under (item_order k x) refl;
+      holds_all = λ x full under. list_any-append (same_item x) so.keys (k ∷ []) ∙ at x full under (item_order k x) refl;
       count = let n = length-append so.keys (k ∷ []) in omega (arith, one, so.count, n);
     }
   where
@@ -169,7 +169,7 @@ so_far_next who rows changes more last before steps after k so next canon one is
         ap (λ b. list_any (same_item x) so.keys || (b || false)) same ∙ or_right (list_any (same_item x) so.keys) true refl
     at x full under Greater e = elim (above_or_not last x) [
       | inl over ↦ absurd (next.least x over full (greater_turned items_total k x e))
-      | inr least ↦ ap (λ b. b || list_any (same_item x) (k ∷ [])) (so.told x full least)
+      | inr least ↦ ap (λ b. b || list_any (same_item x) (k ∷ [])) (so.holds_all x full least)
     ]
 
 -- what is to stand on an item, of the items that carry something
@@ -208,7 +208,7 @@ module _ (who : Who) (rows : List Attachment) (changes : List ItemChange) (last 
             ∙ ap (retract_on who) (sym none)
         | inr full ↦
             ap (λ b. cond b (retract_on who (stored_on x rows)) (stored_on x rows))
-            (so.told x full (λ over. full (end x over)))
+            (so.holds_all x full (λ over. full (end x over)))
       ]
         where
           same : (b : Bool) → cond b (retract_on who []) [] ≡ retract_on who []

@@ -16,7 +16,7 @@ use Rattle.ifmap_session.specs.Rows.{AreHolders, AreRows, AreStamps, ChangesSeat
 use Rattle.ifmap_session.specs.Seats.{Seat}
 use Rattle.ifmap_session.specs.Sessions.{Session, change, session_with_serial, spare_of, with_error, with_item, with_last, without_items, without_name}
 use Rattle.ifmap_session.specs.Stamps.{Restamps, no_stamp}
-use Rattle.ifmap_session.proofs.RowLaws.{changed, empty_row, found, spare_found, spare_other, row_of}
+use Rattle.ifmap_session.proofs.RowLaws.{changed_in_row, empty_row, found_in_row, spare_found, spare_other, row_of}
 use Rattle.ifmap_session.specs.laws.TableLaws.{KeepsIdAndClient, renewed_keeps}
 use Rattle.ifmap_session.proofs.SessionLaws.{holders_changed, own_at, rows_changed}
 use Rattle.ifmap_session.proofs.StampLaws.{stamped_alike, stamped_push, stamped_set}
@@ -90,10 +90,10 @@ module _ {counter : ℕ} {rows : List SessionRow} {holders : List Holder} {width
         before = a;
         after = b;
         holds = r.1.1;
-        there = found n rows place a k.sessions.own.rising k.sessions.own.own e;
+        there = found_in_row n rows place a k.sessions.own.rising k.sessions.own.own e;
         sessions = rw r.2 kept;
         clients = rw r.2 (holders_changed n f rows holders place a b keeps k.sessions.own k.clients e is);
-        live = rw r.2 (changed n f rows place a b k.sessions.own.rising k.sessions.own.own e is);
+        live = rw r.2 (changed_in_row n f rows place a b k.sessions.own.rising k.sessions.own.own e is);
         others = λ other apart. rw r.2 (spare_other n rows place a (Some b) k.sessions.own.own e own_b other apart);
         was = spare_found n rows place a k.sessions.own.rising k.sessions.own.own e;
         is = rw r.2 (spare_found n (set rows place (row_of n b)) place b kept.own.rising kept.own.own

@@ -14,7 +14,7 @@ use Rattle.ifmap_session.specs.Places.{IsPlaceOf}
 use Rattle.ifmap_session.specs.Seats.{Seat}
 use Rattle.ifmap_session.specs.Sessions.{session_with_serial}
 use Rattle.ifmap_session.proofs.Halving.{placed}
-use Rattle.ifmap_session.proofs.RowLaws.{gone, none_of, row_of}
+use Rattle.ifmap_session.proofs.RowLaws.{none_in_row, none_of, row_of}
 use Rattle.ifmap_lemmas.specs.Finding.{none_passes}
 
 module _ (rows : List SessionRow) (n : ℕ) (o : AreOwn rows) where
@@ -52,7 +52,7 @@ module _ (rows : List SessionRow) (n : ℕ) (o : AreOwn rows) where
 
   none_at : (i : ℕ) (kept : Option Seat) → is_some kept ≡ false → slice_get rows i ≡ Some (record { serial = n; kept = kept })
       → session_with_serial n (live_of rows) ≡ None
-  none_at i None none e = gone n rows i o.rising o.own e
+  none_at i None none e = none_in_row n rows i o.rising o.own e
   none_at i (Some seat) none e = cc
 
   pub row_empty : (r : Result ℕ ℕ) (i : ℕ) (x : SessionRow) → IsSearchInRange r (length rows)

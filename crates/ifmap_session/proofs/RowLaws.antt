@@ -1,7 +1,7 @@
 -- Rows, as the session of one changes, ends or begins.
 -- First, over any view of what rows keep: what looks for one serial passes over the rows of others (`find_past`,
--- `filter_past`, `map_past`). Then, for the row at a place: its session is found (`found`), or none is (`gone`, `none_of`); it
--- changes (`changed`), ends (`ended`) or begins (`begun_last`), and so does the room of its queue (`spare_found`,
+-- `filter_past`, `map_past`). Then, for the row at a place: its session is found (`found_in_row`), or none is (`none_in_row`, `none_of`);
+-- it changes (`changed_in_row`), ends (`ended_in_row`) or begins (`begun_last`), and so does the room of its queue (`spare_found`,
 -- `spare_other`). Last: the order of rows and what holds of each stay (`own_set`, `own_push`, `own_filter`).
 use Rattle.std.proofs.Common.{◌≡◌, ◌≢◌, refl, sym, ◌∙◌, ap, subst, ℕ, zero, suc, ◌+◌, ◌<◌, ◌≤◌, ◌==◌, Bool, true, false, not, cond, List, [], ◌∷◌, ◌++◌, length, map, set, Option, None, Some, arith}
 use Rattle.std.proofs.lemmas.Bool.{eqb-true, eq-eqb, false_from_ne_true}
@@ -117,31 +117,31 @@ module _ (n : ℕ) where
   own_is : (r : SessionRow) (a : Seat) → IfSome r.kept (HasOwnSerial r.serial) → r ≡ row_of n a → HasOwnSerial n a
   own_is r a own same = subst (λ (x : SessionRow). IfSome x.kept (HasOwnSerial x.serial)) same own
 
-  pub found : (rows : List SessionRow) (i : ℕ) (a : Seat) → Up rows → Own rows → slice_get rows i ≡ Some (row_of n a)
+  pub found_in_row : (rows : List SessionRow) (i : ℕ) (a : Seat) → Up rows → Own rows → slice_get rows i ≡ Some (row_of n a)
       → session_with_serial n (live_of rows) ≡ Some a.session
   unfolding IsStrictlySortedBy
-  found [] i a up own e = cc
-  found (r ∷ rows) zero a up own e =
+  found_in_row [] i a up own e = cc
+  found_in_row (r ∷ rows) zero a up own e =
       let same : r ≡ row_of n a = cc in
       let mine = own_is r a own.0 same in
       rw (same, eq-eqb a.session.serial n mine.numbered) refl
-  found (r ∷ rows) (suc i) a up own e =
+  found_in_row (r ∷ rows) (suc i) a up own e =
       find_past the_session (λ s. s.serial == n) r.kept (seats_of rows)
       (differs n r.serial r.kept own.0 (below_differs r rows i n (Some a) up.0 e))
-      ∙ found rows i a up.1 own.1 e
+      ∙ found_in_row rows i a up.1 own.1 e
 
-  pub gone : (rows : List SessionRow) (i : ℕ) → Up rows → Own rows → slice_get rows i ≡ Some (empty_row n)
+  pub none_in_row : (rows : List SessionRow) (i : ℕ) → Up rows → Own rows → slice_get rows i ≡ Some (empty_row n)
       → session_with_serial n (live_of rows) ≡ None
   unfolding IsStrictlySortedBy
-  gone [] i up own e = cc
-  gone (r ∷ rows) zero up own e =
+  none_in_row [] i up own e = cc
+  none_in_row (r ∷ rows) zero up own e =
       let same : r ≡ empty_row n = cc in
       let serial : r.serial ≡ n = serial_is r n None e in
       rw same (none_of n rows own.1 (above_differ r rows up.0 n serial))
-  gone (r ∷ rows) (suc i) up own e =
+  none_in_row (r ∷ rows) (suc i) up own e =
       find_past the_session (λ s. s.serial == n) r.kept (seats_of rows)
       (differs n r.serial r.kept own.0 (below_differs r rows i n None up.0 e))
-      ∙ gone rows i up.1 own.1 e
+      ∙ none_in_row rows i up.1 own.1 e
 
   -- the session of the row changes
   module _ (f : Session → Session) where
@@ -153,19 +153,19 @@ module _ (n : ℕ) where
         (λ s is. rw (is, others.0) refl) r.kept own.0) (others_stay rows own.1 others.1)
         ∙ sym (front_is the_session r.kept (seats_of rows))
 
-    pub changed : (rows : List SessionRow) (i : ℕ) (a b : Seat) → Up rows → Own rows → slice_get rows i ≡ Some (row_of n a)
+    pub changed_in_row : (rows : List SessionRow) (i : ℕ) (a b : Seat) → Up rows → Own rows → slice_get rows i ≡ Some (row_of n a)
         → b.session ≡ f a.session → live_of (set rows i (row_of n b)) ≡ change n f (live_of rows)
     unfolding IsStrictlySortedBy
-    changed [] i a b up own e is = cc
-    changed (r ∷ rows) zero a b up own e is =
+    changed_in_row [] i a b up own e is = cc
+    changed_in_row (r ∷ rows) zero a b up own e is =
         let same : r ≡ row_of n a = cc in
         let mine = own_is r a own.0 same in
         let serial : r.serial ≡ n = serial_is r n (Some a) e in
         rw (same, eq-eqb a.session.serial n mine.numbered, is)
         (ap (λ xs. f a.session ∷ xs) (sym (others_stay rows own.1 (above_differ r rows up.0 n serial))))
-    changed (r ∷ rows) (suc i) a b up own e is =
+    changed_in_row (r ∷ rows) (suc i) a b up own e is =
         front_is the_session r.kept (seats_of (set rows i (row_of n b)))
-        ∙ ap (λ xs. map the_session (option_to_list r.kept) ++ xs) (changed rows i a b up.1 own.1 e is)
+        ∙ ap (λ xs. map the_session (option_to_list r.kept) ++ xs) (changed_in_row rows i a b up.1 own.1 e is)
         ∙ sym (map_past the_session (λ s. cond (s.serial == n) (f s) s) r.kept (seats_of rows) (change n f (live_of rows))
         (weaker_own r.serial (λ s. cond (s.session.serial == n) (f s.session) s.session ≡ s.session)
         (λ s is. rw (is, below_differs r rows i n (Some a) up.0 e) refl) r.kept own.0) refl)
@@ -185,18 +185,18 @@ module _ (n : ℕ) where
       (λ s is. stays s.session (rw is others.0)) r.kept own.0) (others_left rows own.1 others.1)
       ∙ sym (front_is the_session r.kept (seats_of rows))
 
-  pub ended : (rows : List SessionRow) (i : ℕ) (a : Seat) → Up rows → Own rows → slice_get rows i ≡ Some (row_of n a)
+  pub ended_in_row : (rows : List SessionRow) (i : ℕ) (a : Seat) → Up rows → Own rows → slice_get rows i ≡ Some (row_of n a)
       → live_of (set rows i (empty_row n)) ≡ without_sessions (n ∷ []) (live_of rows)
   unfolding IsStrictlySortedBy
-  ended [] i a up own e = cc
-  ended (r ∷ rows) zero a up own e =
+  ended_in_row [] i a up own e = cc
+  ended_in_row (r ∷ rows) zero a up own e =
       let same : r ≡ row_of n a = cc in
       let mine = own_is r a own.0 same in
       let serial : r.serial ≡ n = serial_is r n (Some a) e in
       rw (same, goes a.session mine.numbered) (sym (others_left rows own.1 (above_differ r rows up.0 n serial)))
-  ended (r ∷ rows) (suc i) a up own e =
+  ended_in_row (r ∷ rows) (suc i) a up own e =
       front_is the_session r.kept (seats_of (set rows i (empty_row n)))
-      ∙ ap (λ xs. map the_session (option_to_list r.kept) ++ xs) (ended rows i a up.1 own.1 e)
+      ∙ ap (λ xs. map the_session (option_to_list r.kept) ++ xs) (ended_in_row rows i a up.1 own.1 e)
       ∙ sym (filter_past the_session (λ s. not (list_any (λ m. m == s.serial) (n ∷ []))) r.kept (seats_of rows)
       (without_sessions (n ∷ []) (live_of rows))
       (weaker_own r.serial (λ s. not (list_any (λ m. m == s.session.serial) (n ∷ [])) ≡ true)

@@ -34,7 +34,7 @@ use Rattle.ifmap_session.specs.laws.TableLaws.{KeepsIdAndClient, clients_same, l
 use Rattle.ifmap_lemmas.specs.Keyed.{keys_filter, keys_push, rest_differ}
 use Rattle.ifmap_session.specs.laws.TextLaws.{text_is, text_itself}
 use Rattle.ifmap_session.proofs.Halving.{placed}
-use Rattle.ifmap_session.proofs.RowLaws.{Own, Up, begun_last, changed, counted_filter, counted_push, counted_set, empty_row, ended, found, own_filter, own_push, own_set, row_of, seats_filter}
+use Rattle.ifmap_session.proofs.RowLaws.{Own, Up, begun_last, changed_in_row, counted_filter, counted_push, counted_set, empty_row, ended_in_row, found_in_row, own_filter, own_push, own_set, row_of, seats_filter}
 use Rattle.ifmap_lemmas.specs.Filters.{all_weaker, filter_all, filter_passes, filter_shorter, found_all}
 use Rattle.ifmap_lemmas.specs.Finding.{none_passes}
 
@@ -311,7 +311,7 @@ pub rows_changed : (counter n : ℕ) (f : Session → Session) (rows : List Sess
     → slice_get rows i ≡ Some (row_of n a) → HasOwnSerial n a → b.session ≡ f a.session → AreRows counter (set rows i (row_of n b))
 rows_changed counter n f rows i a b k kept e own is =
     let live : live_of (set rows i (row_of n b)) ≡ change n f (live_of rows) =
-    changed n f rows i a b kept.own.rising kept.own.own e is in
+    changed_in_row n f rows i a b kept.own.rising kept.own.own e is in
     record {
       small = kept.small;
       own = own_set n rows i a (Some b) kept.own e (record {
@@ -329,7 +329,7 @@ pub holders_changed : (n : ℕ) (f : Session → Session) (rows : List SessionRo
     → AreHolders rows holders → slice_get rows i ≡ Some (row_of n a) → b.session ≡ f a.session
     → AreHolders (set rows i (row_of n b)) holders
 holders_changed n f rows holders i a b k own h e is =
-    let live : live_of (set rows i (row_of n b)) ≡ change n f (live_of rows) = changed n f rows i a b own.rising own.own e is in
+    let live : live_of (set rows i (row_of n b)) ≡ change n f (live_of rows) = changed_in_row n f rows i a b own.rising own.own e is in
     record {
       ordered = h.ordered;
       indexed = λ c. h.indexed c ∙ sym (ap (λ xs. option_map (λ (s : Session). s.serial) (session_of_client c xs)) live
@@ -341,7 +341,7 @@ pub rows_ended : (counter n : ℕ) (rows : List SessionRow) (i : ℕ) (a : Seat)
     → AreRows counter (set rows i (empty_row n))
 rows_ended counter n rows i a kept e =
     let live : live_of (set rows i (empty_row n)) ≡ filter (λ (t : Session). not (t.serial == n)) (live_of rows) =
-    ended n rows i a kept.own.rising kept.own.own e ∙ sym (without_one n (live_of rows)) in
+    ended_in_row n rows i a kept.own.rising kept.own.own e ∙ sym (without_one n (live_of rows)) in
     record {
       small = kept.small;
       own = own_set n rows i a None kept.own e tt;
@@ -376,7 +376,7 @@ module _ (counter : ℕ) (rows : List SessionRow) (id : List ℕ) (read : Option
   pub one_in_row : (n i : ℕ) (seat : Seat) → read ≡ Some n → slice_get rows i ≡ Some (row_of n seat)
       → session_with_id id (live_of rows) ≡ cond (is_same_text seat.session.id id) (Some seat.session) None
   one_in_row n i seat is there = id_at (live_of rows) n id seat.session (live_up rows kept.own.rising kept.own.own)
-      (leads_to n (live_of rows) id read is id_leads_in_rows) (found n rows i seat kept.own.rising kept.own.own there)
+      (leads_to n (live_of rows) id read is id_leads_in_rows) (found_in_row n rows i seat kept.own.rising kept.own.own there)
 
 count_less : (n : ℕ) (live : List Session) (s : Session) → IsStrictlySortedBy session_order live → session_with_serial n live ≡ Some s
     → suc (length (filter (λ (t : Session). not (t.serial == n)) live)) ≡ length live
@@ -405,9 +405,9 @@ pub holders_ended : (n : ℕ) (rows : List SessionRow) (holders holders2 : List 
     → holders2 ≡ remove holders j → AreHolders (set rows i (empty_row n)) holders2
 holders_ended n rows holders holders2 i a q j apart own h e place is rest =
     let up = live_up rows own.rising own.own in
-    let there : session_with_serial n (live_of rows) ≡ Some a.session = found n rows i a own.rising own.own e in
+    let there : session_with_serial n (live_of rows) ≡ Some a.session = found_in_row n rows i a own.rising own.own e in
     let live : live_of (set rows i (empty_row n)) ≡ filter (λ (t : Session). not (t.serial == n)) (live_of rows) =
-    ended n rows i a own.rising own.own e ∙ sym (without_one n (live_of rows)) in
+    ended_in_row n rows i a own.rising own.own e ∙ sym (without_one n (live_of rows)) in
     let at = subst (IsPlaceOf (λ (x : Holder). is_same_text x.client a.session.client) holders) is place in
     let left : holders2 ≡ filter (λ (x : Holder). not (is_same_text x.client a.session.client)) holders = rest ∙ at.2 in
     record {
@@ -515,4 +515,4 @@ holder_is_there n rows holders i a own h e =
     some_alike (λ (x : Holder). x.serial) (λ (t : Session). t.serial) (holder_of a.session.client holders)
     (session_of_client a.session.client (live_of rows)) (h.indexed a.session.client)
     (found_again (λ (t : Session). t.serial == n) (λ (t : Session). is_same_text t.client a.session.client) (live_of rows) a.session
-    (found n rows i a own.rising own.own e) (text_itself a.session.client))
+    (found_in_row n rows i a own.rising own.own e) (text_itself a.session.client))

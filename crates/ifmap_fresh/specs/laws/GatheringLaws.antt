@@ -105,10 +105,10 @@ gathers tells (r ∷ rs) items cr c g s = elim (cases_Bool (has_item items r.ite
 ]
 
 -- attachments that rise do not fall by their items
-pub grouped : (rows : List Attachment) → IsStrictlySortedBy attachment_order rows → IsGrouped rows
+pub items_grouped : (rows : List Attachment) → IsStrictlySortedBy attachment_order rows → IsGrouped rows
 unfolding IsStrictlySortedBy
-grouped [] r = tt
-grouped (x ∷ xs) r = (all_level xs r.0, grouped xs r.1)
+items_grouped [] r = tt
+items_grouped (x ∷ xs) r = (all_level xs r.0, items_grouped xs r.1)
   where
     level : (o p : Ordering) → ordering_then o p ≡ Less → is_gt o ≡ false
     level Less p e = refl

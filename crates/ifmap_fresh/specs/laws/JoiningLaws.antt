@@ -23,11 +23,11 @@ use Rattle.ifmap_fresh.specs.Reached.{identifiers_in}
 use Rattle.ifmap_fresh.specs.laws.SameLaws.{member, pair_canon, pair_of_one, pair_parts, pair_turned}
 use Rattle.ifmap_ident.specs.SameLaws.{BytesTellIdentifiers, same_item_is}
 
-pub turned : (a b : Option Identifier) (rows : List Attachment) → stored_linked a b rows ≡ stored_linked b a rows
-turned None None rows = refl
-turned None (Some b) rows = refl
-turned (Some a) None rows = refl
-turned (Some a) (Some b) rows = ap (λ i. stored_where i rows) (pair_turned a b)
+pub linked_turned : (a b : Option Identifier) (rows : List Attachment) → stored_linked a b rows ≡ stored_linked b a rows
+linked_turned None None rows = refl
+linked_turned None (Some b) rows = refl
+linked_turned (Some a) None rows = refl
+linked_turned (Some a) (Some b) rows = ap (λ i. stored_where i rows) (pair_turned a b)
 
 pub match_turned : (rows : List Attachment) (filter : Option Filter) (a b : Identifier)
     → is_match rows filter a b ≡ is_match rows filter b a
@@ -104,7 +104,7 @@ module _ (rows : List Attachment) (id_at : ℕ → Option Identifier) (links : �
 
     pub symmetric : IsSymmetric (Linked count link)
     symmetric v w l =
-        matches_linked w v (subst (λ xs. one_meets filter xs ≡ true) (turned (id_at v) (id_at w) rows) (linked_matches v w l))
+        matches_linked w v (subst (λ xs. one_meets filter xs ≡ true) (linked_turned (id_at v) (id_at w) rows) (linked_matches v w l))
 
     pub no_loop : (v : ℕ) → Linked count link v v → ⊥
     no_loop v l = some_there filter (stored_linked (id_at v) (id_at v) rows) (linked_matches v v l) (none_to_itself (id_at v) rows)

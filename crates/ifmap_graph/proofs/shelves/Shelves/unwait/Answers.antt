@@ -6,7 +6,7 @@ use Rattle.ifmap_graph.specs.Sides.{list_next, list_now}
 use Rattle.ifmap_graph.specs.Waits.{waits_at, waits_of, waits_there}
 use Rattle.ifmap_graph.proofs.Staying.{bare_stays, ends_stay}
 use Rattle.ifmap_graph.proofs.Writes.{Write, shelved, side_stays, slot_live, waits_had, waits_has, waits_others, write_of}
-use Rattle.ifmap_graph.proofs.Waited.{lowered}
+use Rattle.ifmap_graph.proofs.Waited.{waits_one_less}
 use Rattle.ifmap_graph.proofs.shelves.Shelves.unwait.Goals as goal
 use Rattle.ifmap_lemmas.specs.Options.{some_is}
 use Rattle.ifmap_ident.specs.SameLaws.{items_total}
@@ -28,7 +28,8 @@ returns c =
     in record {
       shelved = shelved w;
       left = c.unwait_at.ensures.left w.was w.had ∙ sym (waits_has w c.args.item.now tie);
-      waits = lowered (waits_at (get w.slots) w.es) (waits_at (get w.new) w.es) w.item w.was.waits w.later.waits (waits_had w) (waits_has w)
+      waits = waits_one_less (waits_at (get w.slots) w.es) (waits_at (get w.new) w.es) w.item w.was.waits
+          w.later.waits (waits_had w) (waits_has w)
           (waits_others w) (subst (λ (n : ℕ). 0 < n) (waits_had w c.args.item.now tie) c.requires.waited) refl;
       bare = bare_stays w refl;
       now = side_stays w list_now refl;

@@ -5,7 +5,7 @@ use Rattle.ifmap_session.specs.Rows.{live_of}
 use Rattle.ifmap_session.specs.Seats.{Seat}
 use Rattle.ifmap_session.specs.Sessions.{is_same_text, session_of_client}
 use Rattle.ifmap_session.proofs.KeptLaws.{moments_ended, place_within}
-use Rattle.ifmap_session.proofs.RowLaws.{ended, found, spare_other}
+use Rattle.ifmap_session.proofs.RowLaws.{ended_in_row, found_in_row, spare_other}
 use Rattle.ifmap_session.proofs.SessionLaws.{client_gone, holder_is_there, holders_ended, live_up, place_is_ok, rows_ended, without_one}
 use Rattle.ifmap_session.proofs.sessions.Sessions.end.Goals as goal
 
@@ -46,19 +46,21 @@ returns-clause-live c =
     let got = rw c.deref.ensures.value at c.place_in-place.ensures in
     let done = c.end_at-ended.ensures.rows c.args.serial got.0 got.1 in
     let own = c.self.invariant.sessions.own in
-    rw (← c.self.view_is, done.1) (ended c.args.serial c.self.inside.rows.items c.place_in-place.result got.0 own.rising own.own got.1)
+    rw (← c.self.view_is, done.1) (ended_in_row c.args.serial c.self.inside.rows.items c.place_in-place.result got.0
+    own.rising own.own got.1)
 
 pub returns-clause-gone : goal.returns-clause-gone
 returns-clause-gone c = λ client held.
     let got = rw c.deref.ensures.value at c.place_in-place.ensures in
     let done = c.end_at-ended.ensures.rows c.args.serial got.0 got.1 in
     let own = c.self.invariant.sessions.own in
-    let live = ap live_of done.1 ∙ ended c.args.serial c.self.inside.rows.items c.place_in-place.result got.0 own.rising own.own got.1
+    let live = ap live_of done.1 ∙ ended_in_row c.args.serial c.self.inside.rows.items c.place_in-place.result got.0
+    own.rising own.own got.1
     ∙ sym (without_one c.args.serial (live_of c.self.inside.rows.items)) in
     ap (session_of_client client) live
     ∙ client_gone (live_of c.self.inside.rows.items) c.args.serial got.0.session client
     (live_up c.self.inside.rows.items own.rising own.own) c.self.invariant.sessions.apart
-    (found c.args.serial c.self.inside.rows.items c.place_in-place.result got.0 own.rising own.own got.1)
+    (found_in_row c.args.serial c.self.inside.rows.items c.place_in-place.result got.0 own.rising own.own got.1)
     (rw (← c.self.view_is) at held)
 
 pub returns-clause-others : goal.returns-clause-others

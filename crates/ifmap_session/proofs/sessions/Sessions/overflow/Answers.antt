@@ -1,14 +1,14 @@
 use Rattle.std.proofs.Common.{◌≡◌, refl, sym, ◌∙◌, ap, subst, ◌+◌, ◌≤◌, length, arith}
 use Rattle.ifmap_session.specs.Sessions.{Session, with_error}
 use Rattle.ifmap_session.proofs.KeptLaws.{kept_queue, queue_overflowed, rewritten}
-use Rattle.ifmap_session.proofs.RowLaws.{found, spare_found}
+use Rattle.ifmap_session.proofs.RowLaws.{found_in_row, spare_found}
 use Rattle.ifmap_session.proofs.sessions.Sessions.overflow.Goals as goal
 
 pub overflow_at-requires : goal.overflow_at-requires
 overflow_at-requires c =
     let got = rw c.deref.ensures.value at c.place_in-place.ensures in
     let own = c.self.invariant.sessions.own in
-    let there = found c.args.serial c.self.inside.rows.items c.place_in-place.result got.0 own.rising own.own got.1 in
+    let there = found_in_row c.args.serial c.self.inside.rows.items c.place_in-place.result got.0 own.rising own.own got.1 in
     let room = (rw (← c.self.view_is) at c.requires.room) got.0.session there in (
       c.args.serial,
       (

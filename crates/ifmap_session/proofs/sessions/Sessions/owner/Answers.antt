@@ -2,7 +2,7 @@ use Rattle.std.proofs.Common.{◌≡◌, sym, ◌∙◌, subst, false, Some}
 use Rattle.std.proofs.lemmas.Bool.{both_ways, false_from_ne_true}
 use Rattle.ifmap_session.specs.Rows.{live_of}
 use Rattle.ifmap_session.specs.Sessions.{is_same_text, session_with_serial}
-use Rattle.ifmap_session.proofs.RowLaws.{found}
+use Rattle.ifmap_session.proofs.RowLaws.{found_in_row}
 use Rattle.ifmap_session.specs.laws.TextLaws.{text_is, text_same}
 use Rattle.ifmap_session.proofs.SessionLaws.{none_of_serial, none_unread, one_in_row, own_at}
 use Rattle.ifmap_session.proofs.sessions.Sessions.owner.Goals as goal
@@ -32,7 +32,7 @@ returns-then-equals-clause-some c =
     let own = own_at c.in_ok-serial.serial c.self.inside.rows.items got.0 seat k.own.own got.1 in
     let there : session_with_serial seat.session.serial live ≡ Some seat.session =
     subst (λ n. session_with_serial n live ≡ Some seat.session) (sym own.numbered)
-    (found c.in_ok-serial.serial c.self.inside.rows.items got.0 seat k.own.rising k.own.own got.1) in (
+    (found_in_row c.in_ok-serial.serial c.self.inside.rows.items got.0 seat k.own.rising k.own.own got.1) in (
       seat.session,
       rw (← c.self.view_is) (rw (text_same seat.session.id c.args.id.now same) at at),
       sym own.numbered,
