@@ -25,7 +25,7 @@ fn search(alloc: Global) -> Result<Search, NoMemory> {
 }
 
 // A subscription that stands.
-fn standing(alloc: Global) -> Result<Standing, NoMemory> {
+fn make_standing(alloc: Global) -> Result<Standing, NoMemory> {
     let region = Region {
         start: 7,
         max_depth: 2,
@@ -83,6 +83,6 @@ fn no_other_field(rt: HostRuntime) -> Result<(), Fail> {
         standing: Vec::new(alloc),
     };
     assert_eq!(rt; count_parts(parts), 0);
-    assert_eq!(rt; take_apart(standing(alloc)?), (1, 1, 237, 7, 2, 0));
+    assert_eq!(rt; take_apart(make_standing(alloc)?), (1, 1, 237, 7, 2, 0));
     Ok(())
 }

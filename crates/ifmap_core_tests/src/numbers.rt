@@ -1,6 +1,6 @@
 //! What is in use after events: identifiers that are no longer are let go of.
 use crate::asks::{Counts, ask};
-use ifmap_core::Core;
+use ifmap_core::{Core, SESSION_SECONDS};
 use std::test::Fail;
 
 // A client, what it asks, and the identifiers, links and found entries after it.
@@ -57,7 +57,7 @@ static FREED: [Row; 8] = [
 
 #[test]
 fn numbers_are_freed(rt: HostRuntime) -> Result<(), Fail> {
-    let mut core = Core::new(rt.alloc(), 180);
+    let mut core = Core::new(rt.alloc(), SESSION_SECONDS);
     for (client, inner, identifiers, links, found) in FREED {
         let counts = ask(rt.alloc(), &mut core, client, inner)?;
         let due = Counts {

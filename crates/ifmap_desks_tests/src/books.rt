@@ -4,7 +4,8 @@ ghost use Rattle.ifmap_desks.specs.Machines.{IsCoreBook};
 ghost use Rattle.ifmap_dialogue.specs.Desks.{greatest_weight};
 
 use crate::events::{
-    Asking, BEGIN, FIRST_POLL, Kind, Told, again, event_of, first, loss_event, machine, tell,
+    AnswerKind, Asking, BEGIN, FIRST_POLL, Told, event_of, first, loss_event, machine, repetition,
+    tell,
 };
 use ifmap_desks::{BookDesk, CoreMachine, FitEvent};
 use ifmap_dialogue::Desk;
@@ -72,20 +73,20 @@ fn a_poll_is_held_and_a_lost_answer_heard(rt: HostRuntime) -> Result<(), Fail> {
     let told = [
         ask(alloc, &mut desk, first("c1", 1, BEGIN)),
         ask(alloc, &mut desk, first("c1", 2, FIRST_POLL)),
-        ask(alloc, &mut desk, again("c1", 2, FIRST_POLL)),
+        ask(alloc, &mut desk, repetition("c1", 2, FIRST_POLL)),
         lose(alloc, &mut desk),
-        ask(alloc, &mut desk, again("c1", 2, FIRST_POLL)),
+        ask(alloc, &mut desk, repetition("c1", 2, FIRST_POLL)),
         ask(alloc, &mut desk, first("c1", 3, FIRST_POLL)),
     ];
     let book = desk.into_book();
     assert!(rt;
         told == [
-            Told::Done(0, Kind::Began),
-            Told::Done(1, Kind::Waits),
+            Told::Done(0, AnswerKind::Began),
+            Told::Done(1, AnswerKind::Waits),
             Told::Held(2),
-            Told::Done(2, Kind::Heard),
-            Told::Done(3, Kind::Ended),
-            Told::Done(4, Kind::Refused)
+            Told::Done(2, AnswerKind::Heard),
+            Told::Done(3, AnswerKind::Ended),
+            Told::Done(4, AnswerKind::Refused)
         ]
     );
     assert!(rt; book.from == 0 && book.journal.len() == 5 && book.bytes == 4 * 2824 + 1000);
@@ -97,7 +98,7 @@ fn a_book_without_numbers_is_spent(rt: HostRuntime) -> Result<(), Fail> {
     let alloc = rt.alloc();
     let mut desk = BookDesk::new(alloc, last_book(alloc)?, 7);
     // It would be held, but that is looked at later.
-    let spent = ask(alloc, &mut desk, again("c1", 2, FIRST_POLL));
+    let spent = ask(alloc, &mut desk, repetition("c1", 2, FIRST_POLL));
     let book = desk.into_book();
     assert!(rt; spent == Told::Spent(18_446_744_073_709_551_615));
     assert!(rt; book.journal.len() == 1);

@@ -2,9 +2,9 @@
 ghost use Rattle.std.specs.Prelude.{◌≡◌, IfOk};
 ghost use Rattle.ifmap_dialogue.specs.ifmap_machine.Events.{IsFitAsk};
 ghost use Rattle.ifmap_requests.specs.Fit.{IsFitRequest};
-ghost use Rattle.ifmap_dialogue.specs.ifmap_machine.State.{opening_state};
+ghost use Rattle.ifmap_dialogue.specs.ifmap_machine.State.{opening_state, session_seconds};
 
-use ifmap_desks::{Core, CoreMachine};
+use ifmap_desks::{Core, CoreMachine, SESSION_SECONDS};
 use ifmap_dialogue::{Answer, Ask, Event};
 use ifmap_elem::Text;
 use ifmap_hall::Asked;
@@ -35,10 +35,10 @@ pub(crate) const SECOND_SEARCH: &str =
 
 // A machine that begins with no session.
 pub(crate) fn machine(alloc: Global) -> CoreMachine
-    ensures { result ≡ record { core = opening_state 180 } }
+    ensures { result ≡ record { core = opening_state session_seconds } }
 {
     CoreMachine {
-        core: Core::new(alloc, 180),
+        core: Core::new(alloc, SESSION_SECONDS),
     }
 }
 
@@ -89,7 +89,7 @@ pub(crate) fn first<'a>(name: &'a str, random: u128, inner: &'a str) -> Asking<'
 }
 
 // What is asked again.
-pub(crate) fn again<'a>(name: &'a str, random: u128, inner: &'a str) -> Asking<'a> {
+pub(crate) fn repetition<'a>(name: &'a str, random: u128, inner: &'a str) -> Asking<'a> {
     Asking {
         name,
         random,
@@ -145,7 +145,7 @@ pub(crate) fn loss_event(alloc: Global, name: &str, inner: &str) -> Result<Event
 
 // What a machine answers.
 #[derive(Clone, Copy, Debug, PartialEq)]
-pub(crate) enum Kind {
+pub(crate) enum AnswerKind {
     Began,
     Renewed,
     Ended,
@@ -161,24 +161,24 @@ pub(crate) enum Kind {
 // What is answered at a desk.
 #[derive(Clone, Copy, Debug, PartialEq)]
 pub(crate) enum Told {
-    Done(u64, Kind),
+    Done(u64, AnswerKind),
     Held(u64),
     Spent(u64),
     NoMemory,
 }
 
-fn kind_of(answer: Answer) -> Kind {
+fn kind_of(answer: Answer) -> AnswerKind {
     match answer {
-        Answer::Held => Kind::Waits,
-        Answer::Heard => Kind::Heard,
+        Answer::Held => AnswerKind::Waits,
+        Answer::Heard => AnswerKind::Heard,
         Answer::Reply(reply) => match reply {
-            Reply::NewSession { .. } => Kind::Began,
-            Reply::Renewed => Kind::Renewed,
-            Reply::Ended => Kind::Ended,
-            Reply::Published => Kind::Published,
-            Reply::Found(entries) => Kind::Found(entries.0.len()),
-            Reply::Error { .. } => Kind::Refused,
-            _ => Kind::Other,
+            Reply::NewSession { .. } => AnswerKind::Began,
+            Reply::Renewed => AnswerKind::Renewed,
+            Reply::Ended => AnswerKind::Ended,
+            Reply::Published => AnswerKind::Published,
+            Reply::Found(entries) => AnswerKind::Found(entries.0.len()),
+            Reply::Error { .. } => AnswerKind::Refused,
+            _ => AnswerKind::Other,
         },
     }
 }

@@ -5,8 +5,8 @@ ghost use Rattle.ifmap_dialogue.specs.Desks.{greatest_weight};
 ghost use Rattle.ifmap_hall.specs.Passes.{IsOf, view_of};
 
 use crate::events::{
-    Asking, BEGIN, FIRST_POLL, FIRST_PUBLISH, FIRST_RENEWAL, Kind, SECOND_SEARCH, Told, again,
-    event_of, first, machine, tell,
+    AnswerKind, Asking, BEGIN, FIRST_POLL, FIRST_PUBLISH, FIRST_RENEWAL, SECOND_SEARCH, Told,
+    event_of, first, machine, repetition, tell,
 };
 use ifmap_desks::{CoreMachine, FitEvent, PassDesk, silent_passes_recall};
 use ifmap_dialogue::Desk;
@@ -50,7 +50,7 @@ fn renew_often<R: Wait>(
     let mut renewed = 0u32;
     for _ in 0..times {
         let told = ask_hall(rt, alloc, hall, pass, first("c1", 3, FIRST_RENEWAL));
-        if let Told::Done(_, Kind::Renewed) = told {
+        if let Told::Done(_, AnswerKind::Renewed) = told {
             renewed = renewed.saturating_add(1);
         }
     }
@@ -75,10 +75,10 @@ fn a_base_goes_past_what_a_pass_has_seen(rt: HostRuntime) -> Result<(), Fail> {
     assert!(rt;
         [begun, published, second, found]
             == [
-                Told::Done(0, Kind::Began),
-                Told::Done(1, Kind::Published),
-                Told::Done(2002, Kind::Began),
-                Told::Done(2003, Kind::Found(1))
+                Told::Done(0, AnswerKind::Began),
+                Told::Done(1, AnswerKind::Published),
+                Told::Done(2002, AnswerKind::Began),
+                Told::Done(2003, AnswerKind::Found(1))
             ]
     );
     assert!(rt; book.from > 1000 && book.bytes <= 600_000 && book.end() == 2004);
@@ -124,14 +124,14 @@ fn desks_over_two_passes_ask_one_history(rt: HostRuntime) -> Result<(), Fail> {
         ask_desk(&rt, alloc, &hall, &mut other, first("c2", 2, BEGIN)),
         ask_desk(&rt, alloc, &hall, &mut one, first("c1", 3, FIRST_PUBLISH)),
         ask_desk(&rt, alloc, &hall, &mut other, first("c2", 4, SECOND_SEARCH)),
-        ask_desk(&rt, alloc, &hall, &mut one, again("c1", 5, FIRST_POLL)),
+        ask_desk(&rt, alloc, &hall, &mut one, repetition("c1", 5, FIRST_POLL)),
     ];
     assert!(rt;
         told == [
-            Told::Done(0, Kind::Began),
-            Told::Done(1, Kind::Began),
-            Told::Done(2, Kind::Published),
-            Told::Done(3, Kind::Found(1)),
+            Told::Done(0, AnswerKind::Began),
+            Told::Done(1, AnswerKind::Began),
+            Told::Done(2, AnswerKind::Published),
+            Told::Done(3, AnswerKind::Found(1)),
             Told::Held(4)
         ]
     );

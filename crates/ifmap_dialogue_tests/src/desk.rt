@@ -10,7 +10,7 @@ use std::alloc::{AllocError as NoMemory, Global};
 
 /// What was asked.
 #[derive(Clone, Copy, Debug, PartialEq, Eq)]
-pub enum Kind {
+pub enum EventKind {
     Poll,
     Other,
     Lost,
@@ -36,7 +36,7 @@ pub enum Plan {
 /// One ask, as it was kept.
 #[derive(Clone, Copy, Debug, PartialEq, Eq)]
 pub struct Noted {
-    pub kind: Kind,
+    pub kind: EventKind,
     pub again: bool,
     pub moment: u64,
     pub random: u128,
@@ -76,7 +76,7 @@ impl PlainDesk {
     }
 
     // Keeps what was asked.
-    fn note(&mut self, event: &Event, kind: Kind) -> Result<(), NoMemory>
+    fn note(&mut self, event: &Event, kind: EventKind) -> Result<(), NoMemory>
         ensures held { self.new.held ≡ self.old.held }
         ensures spent { self.new.spent ≡ self.old.spent }
     {
@@ -94,14 +94,14 @@ impl PlainDesk {
     }
 
     // The plan for an ask of this kind.
-    fn plan_for(&mut self, kind: Kind) -> Plan
+    fn plan_for(&mut self, kind: EventKind) -> Plan
         ensures held { self.new.held ≡ self.old.held }
         ensures spent { self.new.spent ≡ self.old.spent }
     {
         match kind {
-            Kind::Other => self.others,
-            Kind::Lost => self.lost,
-            Kind::Poll => {
+            EventKind::Other => self.others,
+            EventKind::Lost => self.lost,
+            EventKind::Poll => {
                 let last = self.polls.len().saturating_sub(1);
                 let place = self.next.min(last);
                 self.next = self.next.saturating_add(1);
@@ -119,13 +119,13 @@ fn is_lost_in_s(ask: &Ask) -> bool {
 }
 
 // What is asked.
-fn kind_of(ask: &Ask) -> Kind
+fn kind_of(ask: &Ask) -> EventKind
     ensures { IsKind ask.now result }
 {
     match ask {
-        Ask::Lost(_) => Kind::Lost,
-        Ask::Request(Request::Poll { .. }) => Kind::Poll,
-        Ask::Request(_) => Kind::Other,
+        Ask::Lost(_) => EventKind::Lost,
+        Ask::Request(Request::Poll { .. }) => EventKind::Poll,
+        Ask::Request(_) => EventKind::Other,
     }
 }
 
@@ -156,7 +156,7 @@ impl Desk for PlainDesk {
         if plan == Plan::NoMemory {
             return Asked::NoMemory { event };
         }
-        if kind == Kind::Poll && plan == Plan::Held {
+        if kind == EventKind::Poll && plan == Plan::Held {
             self.held = self.held.saturating_add(1);
             return Asked::Held { place: 0, event };
         }
@@ -166,14 +166,14 @@ impl Desk for PlainDesk {
 }
 
 // The answer to an ask of that kind by a plan.
-fn answer_by(alloc: Global, plan: Plan, kind: Kind, event: &Event) -> Answer
+fn answer_by(alloc: Global, plan: Plan, kind: EventKind, event: &Event) -> Answer
     requires { IsKind event.now.ask kind }
     ensures { FitsAnswer event.now result }
 {
     match kind {
-        Kind::Lost => Answer::Heard,
-        Kind::Other => Answer::Reply(Reply::Renewed),
-        Kind::Poll => match plan {
+        EventKind::Lost => Answer::Heard,
+        EventKind::Other => Answer::Reply(Reply::Renewed),
+        EventKind::Poll => match plan {
             Plan::StillHeld => Answer::Held,
             Plan::Told => Answer::Reply(Reply::Polled(Many(Vec::new(alloc)))),
             _ => Answer::Reply(Reply::Renewed),

@@ -1,7 +1,7 @@
 //! What no clause says: tables of connections over links in memory.
 ghost use Rattle.std.specs.Prelude.{◌≡◌};
 
-use crate::desk::{CountingGate, Kind, Noted, PlainDesk, Plan};
+use crate::desk::{CountingGate, EventKind, Noted, PlainDesk, Plan};
 use ifmap_dialogue::{Ending, serve_connection};
 use ifmap_http::Wire;
 use ifmap_io::{MemoryClock, MemoryLink, Moment};
@@ -246,7 +246,7 @@ fn a_body_is_answered_by_what_it_means(rt: HostRuntime) -> Result<(), Fail> {
 
 // Whether the ask of this place in a row of polls is as it is to be.
 fn is_poll_at(noted: &Noted, place: u64, random: u128) -> bool {
-    noted.kind == Kind::Poll
+    noted.kind == EventKind::Poll
         && noted.again == (place > 0)
         && noted.moment == 1_000_000_000_u64.saturating_add(place)
         && noted.random == random
@@ -304,7 +304,7 @@ static LOSING: [(Plan, Ending); 3] = [
 // Whether a desk was asked three times, the last time for the one lost answer.
 fn was_told(desk: &PlainDesk) -> bool {
     let note = Noted {
-        kind: Kind::Lost,
+        kind: EventKind::Lost,
         again: false,
         moment: 1_000_000_001,
         random: first_random(),

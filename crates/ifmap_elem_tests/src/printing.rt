@@ -69,7 +69,7 @@ fn worded_child_of(
     Ok(Child::Element(element_of(alloc, name, rows, children)?))
 }
 
-fn empty(alloc: Global) -> Result<Element, NoMemory> {
+fn empty_element(alloc: Global) -> Result<Element, NoMemory> {
     element_of(alloc, ("", "a"), &[], Many(Vec::new(alloc)))
 }
 
@@ -153,7 +153,7 @@ const PRINTED_ESCAPES: &str =
 #[test]
 fn elements_print_as_written_by_hand(rt: HostRuntime) {
     let alloc = rt.alloc();
-    assert!(rt; prints(alloc, empty(alloc), "<a/>"));
+    assert!(rt; prints(alloc, empty_element(alloc), "<a/>"));
     assert!(rt; prints(alloc, no_space(alloc), "<a x=\"1\">t</a>"));
     assert!(rt; prints(alloc, two_spaces(alloc, &Y_AND_X), PRINTED_SPACES));
     assert!(rt; prints(alloc, spaces_in_attributes(alloc), PRINTED_ATTRIBUTES));
