@@ -24,14 +24,13 @@ use Rattle.ifmap_plans.specs.Lists.{list_without, next_on, put_each}
 use Rattle.ifmap_plans.specs.Placing.{put}
 use Rattle.ifmap_plans.specs.Plans.{list_after}
 use Rattle.ifmap_plans.specs.laws.KeyLaws.{stored_total}
-use Rattle.ifmap_plans.specs.laws.PlacingLaws.{has_put_one, put_sorted}
+use Rattle.ifmap_plans.specs.laws.PlacingLaws.{has_put, has_put_one, put_has, put_sorted}
 use Rattle.ifmap_search.specs.declared.searches.Search.{Search}
 use Rattle.ifmap_view.specs.declared.attachments.Attachment.{Attachment}
 use Rattle.ifmap_view.specs.Attachments.{stored_order}
 use Rattle.ifmap_view.specs.Rows.{stored_on}
 use Rattle.ifmap_fresh.specs.Fresh.{is_looked_at}
 use Rattle.ifmap_fresh.specs.Gathered.{stored_entry}
-use Rattle.ifmap_folds.specs.laws.RisingLaws.{has_still, put_has}
 use Rattle.ifmap_delta.specs.Shown.{shown_on}
 use Rattle.ifmap_delta.specs.Touched.{has_met, surplus, rows_touched_by}
 
@@ -85,10 +84,10 @@ module _ (rows these found : List Stored) (row : Stored) (up : IsStrictlySortedB
 
   module _ (x : Stored) (there : Has rows x) (equal : tie x row ≡ true) where
     of_put : (z : Stored) → Has (put stored_order x found) z → Has (rows_touched_by (these ++ row ∷ []) rows) z
-    of_put z h = elim (put_has stored_order stored_total x found z h) [
+    of_put z h = elim (put_has Stored stored_order stored_total x found z h) [
       | inl e ↦ subst (λ y. Has (rows_touched_by (these ++ row ∷ []) rows) y) e
           (has_filter (ties (these ++ row ∷ [])) rows x there (last_ties these row x (tie_turned row x ∙ equal)))
-      | inr k ↦ of_found z k
+      | inr k ↦ of_found z k.0
     ]
 
     is_put : (z : Stored) → x ≡ z → Has (put stored_order x found) z
@@ -100,7 +99,7 @@ module _ (rows these found : List Stored) (row : Stored) (up : IsStrictlySortedB
         in elim (which_ties these row z f.1) [
           | inl e ↦ elim (cases_Bool (tie z x)) [
             | inl t ↦ is_put z (one_of_two rows up x z there f.0 (tie_turned x z ∙ t))
-            | inr t ↦ has_still stored_order stored_total x found z (was_found z f.0 e) t
+            | inr t ↦ has_put Stored stored_order stored_total x found z (was_found z f.0 e) (tie_turned x z ∙ t)
           ]
           | inr e ↦ is_put z (one_of_two rows up x z there f.0 ((eq_by_cmp_equiv stored_total).congr x row z equal ∙ e))
         ]
@@ -127,14 +126,14 @@ stays_each : (added xs : List Stored) (t : Stored) → Aside added t → Has xs 
 stays_each [] xs t n h = h
 stays_each (a ∷ added) xs t n h =
     stays_each added (put stored_order a xs) t (λ r k. n r (inr k))
-    (has_still stored_order stored_total a xs t h (tie_turned t a ∙ n a (inl refl)))
+    (has_put Stored stored_order stored_total a xs t h (n a (inl refl)))
 
 was_each : (added xs : List Stored) (t : Stored) → Aside added t → Has (put_each added xs) t → Has xs t
 was_each [] xs t n h = h
 was_each (a ∷ added) xs t n h =
-    elim (put_has stored_order stored_total a xs t (was_each added (put stored_order a xs) t (λ r k. n r (inr k)) h)) [
+    elim (put_has Stored stored_order stored_total a xs t (was_each added (put stored_order a xs) t (λ r k. n r (inr k)) h)) [
       | inl e ↦ let q : false ≡ true = sym (n a (inl refl)) ∙ subst (λ y. tie a y ≡ true) e (tie_itself a) in cc
-      | inr k ↦ k
+      | inr k ↦ k.0
     ]
 
 stays_on : (removed added xs : List Stored) (t : Stored) → Aside (removed ++ added) t → Has xs t → Has (next_on removed added xs) t

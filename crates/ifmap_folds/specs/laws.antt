@@ -1,3 +1,2 @@
 -- Laws on the definitions, which crates above cite.
-pub mod RisingLaws
 pub mod FoldingLaws

@@ -9,7 +9,7 @@ use Rattle.std.proofs.lemmas.List.Kept.{IsStrictlySortedBy-filter}
 use Rattle.std.specs.List.{find}
 use Rattle.std.specs.List.Sorted.{IsStrictlySortedBy}
 use Rattle.ifmap_folds.specs.Folds.{Sets, fold_items, with_entries}
-use Rattle.ifmap_folds.specs.laws.RisingLaws.{put_has}
+use Rattle.ifmap_folds.specs.ifmap_plans.laws.PlacingLaws.{put_has}
 use Rattle.ifmap_folds.specs.ifmap_fresh.Fresh.{fresh}
 use Rattle.ifmap_lemmas.specs.Filters.{all_weaker, filter_passes}
 use Rattle.ifmap_lemmas.specs.Having.{Has, filter_has, has_any, has_either, has_filter, map_has, all_has}
@@ -219,20 +219,21 @@ module _ (rows : List Attachment) (serial counter : ℕ) (sets : Sets) (standing
           below = λ x hx. (dropped_tells name t w).below x hx;
         })
         | inr fits ↦ rw fits (record {
-          mine = λ x hx own live. elim (put_has standing_order standing_total _ left.standing x hx) [
+          mine = λ x hx own live. elim (put_has Standing standing_order standing_total _ left.standing x hx) [
             | inl e ↦ subst (λ (y : Standing). fold_items (left.queue ++ the_item.Search name (fresh rows asked) ∷ []) sets y.name
                 ≡ Some (fresh rows y.search)) e
                 (ap (λ g. g name) (fold_joined left.queue (the_item.Search name (fresh rows asked) ∷ []) sets)
                 ∙ rw own_name (ap Some (begins asked)))
-            | inr h ↦ more_tells {Live = Live} {Now = Now} name (the_item.Search name (fresh rows asked)) t own_name counted w x h own live
+            | inr h ↦ more_tells {Live = Live} {Now = Now} name (the_item.Search name (fresh rows asked)) t own_name counted w x h.0
+                own live
           ];
-          others = λ x hx other. elim (put_has standing_order standing_total _ left.standing x hx) [
+          others = λ x hx other. elim (put_has Standing standing_order standing_total _ left.standing x hx) [
             | inl e ↦ absurd (both_ways (x.serial == serial) other (eq-eqb x.serial serial (ap (λ (y : Standing). y.serial) (sym e))))
-            | inr h ↦ (dropped_tells name t w).others x h other
+            | inr h ↦ (dropped_tells name t w).others x h.0 other
           ];
-          below = λ x hx. elim (put_has standing_order standing_total _ left.standing x hx) [
+          below = λ x hx. elim (put_has Standing standing_order standing_total _ left.standing x hx) [
             | inl e ↦ subst (λ n. n ≤ counter) (ap (λ (y : Standing). y.serial) e) in_range
-            | inr h ↦ (dropped_tells name t w).below x h
+            | inr h ↦ (dropped_tells name t w).below x h.0
           ];
         })
       ]

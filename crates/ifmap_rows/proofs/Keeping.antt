@@ -15,11 +15,11 @@ use Rattle.ifmap_lemmas.specs.Rising.{tied_same}
 use Rattle.ifmap_meta.specs.declared.stored.Stored.{Stored}
 use Rattle.ifmap_plans.specs.Placing.{put}
 use Rattle.ifmap_plans.specs.laws.KeyLaws.{stored_total}
-use Rattle.ifmap_plans.specs.laws.PlacingLaws.{has_put_one, put_sorted}
+use Rattle.ifmap_plans.specs.laws.PlacingLaws.{has_put, has_put_one, put_has, put_sorted}
 use Rattle.ifmap_plans.specs.ifmap_view.Attachments.{stored_order}
 use Rattle.ifmap_rows.specs.Indexed.{IsIndexed, without_one, word_order}
 use Rattle.ifmap_meta.specs.Keys.{word_of}
-use Rattle.ifmap_rows.specs.laws.RisingLaws.{has_put, none_equal, put_again, put_has}
+use Rattle.ifmap_rows.specs.laws.RisingLaws.{none_equal, put_again}
 
 pub empty : IsIndexed [] []
 unfolding IsStrictlySortedBy

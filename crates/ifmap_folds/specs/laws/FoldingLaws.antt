@@ -2,7 +2,7 @@
 use Rattle.std.proofs.Common.{◌≡◌, ◌⊎◌, inl, inr, Bool, true, false, not, ◌&&◌, List, [], ◌∷◌, refl, ap, ◌∙◌, map}
 use Rattle.std.proofs.Common.{sym, subst}
 use Rattle.std.proofs.lemmas.Bool.{cases_Bool}
-use Rattle.std.proofs.lemmas.Cmp.{nat_list_cmp_total, on_total, then_total}
+use Rattle.std.proofs.lemmas.Cmp.{eq_by_cmp_equiv, nat_list_cmp_total, on_total, then_total}
 use Rattle.std.proofs.lemmas.List.Kept.{IsStrictlySortedBy-filter}
 use Rattle.std.specs.Cmp.{IsTotalOrder, tied_itself, tied_then}
 use Rattle.std.specs.Cmp.Lexicographic.{slice_cmp, texts_ties}
@@ -15,12 +15,11 @@ use Rattle.ifmap_ident.specs.Items.{item_order, items_tie}
 use Rattle.ifmap_lemmas.specs.Having.{Has, any_has, filter_has, has_any, has_filter, all_has}
 use Rattle.ifmap_lemmas.specs.Orderings.{eq_turned}
 use Rattle.ifmap_plans.specs.Placing.{put}
-use Rattle.ifmap_plans.specs.laws.PlacingLaws.{has_put_one, put_sorted}
+use Rattle.ifmap_plans.specs.laws.PlacingLaws.{has_put, has_put_one, put_has, put_sorted}
 use Rattle.ifmap_ident.specs.SameLaws.{items_total}
 use Rattle.ifmap_fresh.specs.ifmap_search.declared.results.Entry.{Entry}
 use Rattle.ifmap_folds.specs.Differences.{difference, entry_bytes, entry_order, has_entry, same_entry}
 use Rattle.ifmap_folds.specs.Folds.{with_entries}
-use Rattle.ifmap_folds.specs.laws.RisingLaws.{has_still, put_has}
 use Rattle.ifmap_fresh.specs.ifmap_view.declared.attachments.Attachment.{Attachment}
 use Rattle.ifmap_fresh.specs.ifmap_view.Attachments.{attachment_order, stored_bytes, IsGraph}
 use Rattle.ifmap_lemmas.specs.Filters.{all_weaker}
@@ -59,9 +58,9 @@ with_has : (es set : List Entry) (z : Entry) → Has (with_entries es set) z →
 with_has [] set z h = inr h
 with_has (e ∷ es) set z h = elim (with_has es (put entry_order e set) z h) [
   | inl k ↦ inl (inr k)
-  | inr k ↦ elim (put_has entry_order entries_total e set z k) [
+  | inr k ↦ elim (put_has Entry entry_order entries_total e set z k) [
     | inl q ↦ inl (inl q)
-    | inr m ↦ inr m
+    | inr m ↦ inr m.0
   ]
 ]
 
@@ -69,7 +68,9 @@ has_kept : (es set : List Entry) (z : Entry) → Has set z → ((e : Entry) → 
     → Has (with_entries es set) z
 has_kept [] set z h d = h
 has_kept (e ∷ es) set z h d =
-    has_kept es (put entry_order e set) z (has_still entry_order entries_total e set z h (d e (inl refl))) (λ x k. d x (inr k))
+    has_kept es (put entry_order e set) z
+    (has_put Entry entry_order entries_total e set z h ((eq_by_cmp_equiv entries_total).symm e z ∙ d e (inl refl)))
+    (λ x k. d x (inr k))
 
 has_with : (es set : List Entry) (z : Entry) → IsStrictlySortedBy entry_order es → Has es z → Has (with_entries es set) z
 has_with [] set z r h = absurd h

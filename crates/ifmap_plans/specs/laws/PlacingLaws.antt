@@ -1,7 +1,7 @@
 -- Putting in, taking out and finding, in lists that rise strictly.
-use Rattle.std.proofs.Common.{◌≡◌, refl, sym, ◌∙◌, ap, subst, ℕ, suc, zero, ◌<◌, ◌≤◌, Bool, true, false, List, [], ◌∷◌, length}
-use Rattle.std.proofs.Common.{get_or, Ordering, arith, Result, Ok, Err, inl, set}
-use Rattle.std.proofs.lemmas.Cmp.{alike_right}
+use Rattle.std.proofs.Common.{◌≡◌, ◌⊎◌, refl, sym, ◌∙◌, ap, subst, ℕ, suc, zero, ◌<◌, ◌≤◌, Bool, true, false, List, [], ◌∷◌, length}
+use Rattle.std.proofs.Common.{get_or, Ordering, arith, Result, Ok, Err, inl, inr, set}
+use Rattle.std.proofs.lemmas.Cmp.{alike_right, eq_by_cmp_equiv}
 use Rattle.std.proofs.lemmas.List.Elements.{recursion_from_All}
 use Rattle.std.proofs.lemmas.List.Folds.{list_any_at}
 use Rattle.std.proofs.lemmas.List.Kept.{IsStrictlySortedBy-filter}
@@ -13,8 +13,8 @@ use Rattle.std.specs.Ordering.{eq_by_cmp, is_eq, is_gt, is_lt}
 use Rattle.std.specs.Result.{is_ok}
 use Rattle.std.specs.declared.cmp.Ordering.TheVariants.{Less, Equal, Greater}
 use Rattle.ifmap_lemmas.specs.Filters.{all_around, all_at, all_filter, all_weaker, filter_all, filter_none, filter_passes}
-use Rattle.ifmap_lemmas.specs.Having.{Has, has_right}
-use Rattle.ifmap_lemmas.specs.Orderings.{greater_turned, is_greater, is_less, less_turned}
+use Rattle.ifmap_lemmas.specs.Having.{Has, filter_has, has_either, has_filter, has_left, has_right}
+use Rattle.ifmap_lemmas.specs.Orderings.{greater_turned, is_greater, is_less, less_differs, less_turned}
 use Rattle.ifmap_lemmas.specs.Rising.{rises_around, rises_in_order}
 use Rattle.ifmap_plans.specs.Placing.{IsSpot, put}
 pub use Rattle.ifmap_lemmas.specs.Inserted.{found_any, gap_none}
@@ -102,6 +102,28 @@ module _ (X : Type 0) (C : X → X → Ordering) (o : IsTotalOrder C) where
   -- and has the one that was put in
   pub has_put_one : (a : X) (xs : List X) → Has (put C a xs) a
   has_put_one a xs = has_right (filter (λ y. is_lt (C y a)) xs) (a ∷ filter (λ y. is_gt (C y a)) xs) a (inl refl)
+
+  -- what a list has after one is put in
+  pub put_has : (a : X) (xs : List X) (x : X) → Has (put C a xs) x → (a ≡ x) ⊎ (Has xs x × (is_eq (C a x) ≡ false))
+  put_has a xs x h = elim (has_either (filter (λ y. is_lt (C y a)) xs) (a ∷ filter (λ y. is_gt (C y a)) xs) x h) [
+    | inl l ↦ let p = filter_has (λ y. is_lt (C y a)) xs x l in inr (p.0, (eq_by_cmp_equiv o).symm a x ∙ less_differs (C x a) p.1)
+    | inr r ↦ elim r [
+      | inl e ↦ inl e
+      | inr g ↦ let p = filter_has (λ y. is_gt (C y a)) xs x g in
+          inr (p.0, (eq_by_cmp_equiv o).symm a x ∙ ap is_eq (is_greater (C x a) p.1))
+    ]
+  ]
+
+  -- and what is not equal to it stays
+  has_by : (a : X) (xs : List X) (x : X) (r : Ordering) → C x a ≡ r → Has xs x → is_eq (C a x) ≡ false → Has (put C a xs) x
+  has_by a xs x Less is h e = has_left (filter (λ y. is_lt (C y a)) xs) (a ∷ filter (λ y. is_gt (C y a)) xs) x
+      (has_filter (λ y. is_lt (C y a)) xs x h (ap is_lt is))
+  has_by a xs x Equal is h e = let bad : true ≡ false = sym (ap is_eq is) ∙ (eq_by_cmp_equiv o).symm x a ∙ e in cc
+  has_by a xs x Greater is h e = has_right (filter (λ y. is_lt (C y a)) xs) (a ∷ filter (λ y. is_gt (C y a)) xs) x
+      (inr (has_filter (λ y. is_gt (C y a)) xs x h (ap is_gt is)))
+
+  pub has_put : (a : X) (xs : List X) (x : X) → Has xs x → is_eq (C a x) ≡ false → Has (put C a xs) x
+  has_put a xs x h e = has_by a xs x (C x a) refl h e
 
   module _ (E : X → X → Bool) (e : IsEquivalence E) (a : X) where
     -- with the first member less than, equal to or greater than the one that is put in

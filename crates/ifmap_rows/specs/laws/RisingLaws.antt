@@ -1,5 +1,5 @@
 -- Lists in a strict order: the one member that is equal to another, without it, and with one more.
-use Rattle.std.proofs.Common.{◌≡◌, ◌⊎◌, refl, sym, ◌∙◌, ap, inl, inr, ℕ, ◌<◌, true, false, not, List, [], ◌∷◌, ◌++◌, length}
+use Rattle.std.proofs.Common.{◌≡◌, refl, sym, ◌∙◌, ap, inl, inr, ℕ, ◌<◌, true, false, not, List, [], ◌∷◌, ◌++◌, length}
 use Rattle.std.proofs.Common.{get_or, Ordering}
 use Rattle.std.proofs.lemmas.Bool.{cases_Bool}
 use Rattle.std.proofs.lemmas.Cmp.{eq_by_cmp_equiv}
@@ -7,9 +7,9 @@ use Rattle.std.specs.Cmp.{IsTotalOrder}
 use Rattle.std.specs.List.{filter, list_any, remove}
 use Rattle.std.specs.List.Sorted.{IsStrictlySortedBy}
 use Rattle.std.specs.Ordering.{eq_by_cmp, is_eq, is_gt, is_lt}
-use Rattle.std.specs.declared.cmp.Ordering.TheVariants.{Less, Equal, Greater}
+use Rattle.std.specs.declared.cmp.Ordering.TheVariants.{Equal}
 use Rattle.ifmap_lemmas.specs.Filtered.{filter_agrees}
-use Rattle.ifmap_lemmas.specs.Having.{Has, filter_has, has_any, has_either, has_filter, has_left, has_right}
+use Rattle.ifmap_lemmas.specs.Having.{Has, has_any}
 use Rattle.ifmap_lemmas.specs.Orderings.{is_greater, less_differs}
 use Rattle.ifmap_lemmas.specs.Parted.{filter_within}
 use Rattle.ifmap_lemmas.specs.Rising.{remove_tied}
@@ -43,27 +43,6 @@ module _ (X : Type 0) (C : X → X → Ordering) (o : IsTotalOrder C) where
         cc
     | inr f ↦ f
   ]
-
-  -- what a list has after one is put in
-  pub put_has : (a : X) (xs : List X) (x : X) → Has (put C a xs) x → (a ≡ x) ⊎ (Has xs x × (is_eq (C a x) ≡ false))
-  put_has a xs x h = elim (has_either (filter (λ y. is_lt (C y a)) xs) (a ∷ filter (λ y. is_gt (C y a)) xs) x h) [
-    | inl l ↦ let p = filter_has (λ y. is_lt (C y a)) xs x l in inr (p.0, (eq_by_cmp_equiv o).symm a x ∙ less_differs (C x a) p.1)
-    | inr r ↦ elim r [
-      | inl e ↦ inl e
-      | inr g ↦ let p = filter_has (λ y. is_gt (C y a)) xs x g in
-          inr (p.0, (eq_by_cmp_equiv o).symm a x ∙ ap is_eq (is_greater (C x a) p.1))
-    ]
-  ]
-
-  has_by : (a : X) (xs : List X) (x : X) (r : Ordering) → C x a ≡ r → Has xs x → is_eq (C a x) ≡ false → Has (put C a xs) x
-  has_by a xs x Less is h e = has_left (filter (λ y. is_lt (C y a)) xs) (a ∷ filter (λ y. is_gt (C y a)) xs) x
-      (has_filter (λ y. is_lt (C y a)) xs x h (ap is_lt is))
-  has_by a xs x Equal is h e = let bad : true ≡ false = sym (ap is_eq is) ∙ (eq_by_cmp_equiv o).symm x a ∙ e in cc
-  has_by a xs x Greater is h e = has_right (filter (λ y. is_lt (C y a)) xs) (a ∷ filter (λ y. is_gt (C y a)) xs) x
-      (inr (has_filter (λ y. is_gt (C y a)) xs x h (ap is_gt is)))
-
-  pub has_put : (a : X) (xs : List X) (x : X) → Has xs x → is_eq (C a x) ≡ false → Has (put C a xs) x
-  has_put a xs x h e = has_by a xs x (C x a) refl h e
 
   less_other : (a y : X) → is_lt (C y a) ≡ true → not (eq_by_cmp C a y) ≡ true
   less_other a y h = ap not ((eq_by_cmp_equiv o).symm a y ∙ less_differs (C y a) h)
