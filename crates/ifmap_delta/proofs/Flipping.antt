@@ -26,7 +26,7 @@ use Rattle.ifmap_delta.specs.Bounds.{IsFlip}
 use Rattle.ifmap_delta.specs.Changes.{ShowsAfter}
 use Rattle.ifmap_delta.specs.Flipped.{AreFlipsOf, IsFlipAt, is_one_marked}
 use Rattle.ifmap_delta.specs.Sights.{Links, ViewSeen}
-use Rattle.ifmap_fresh.specs.laws.JoiningLaws.{linked_matches, match_turned, matches_linked, some_there}
+use Rattle.ifmap_fresh.specs.laws.JoiningLaws.{linked_matches, match_turned, matches_linked, some_if_met}
 use Rattle.ifmap_fresh.specs.laws.SameLaws.{pair_canon, pair_is, pair_parts}
 use Rattle.ifmap_ident.specs.SameLaws.{BytesTellIdentifiers, same_item_is}
 
@@ -46,8 +46,8 @@ module _ (g : ViewSeen) (s : Search) where
       by : (a b : Option Identifier) → g.id_at v ≡ a → g.id_at w ≡ b → one_meets s.match_links (stored_linked a b g.rows) ≡ true
           → (a : Identifier) × (b : Identifier) × (g.id_at v ≡ Some a) × (g.id_at w ≡ Some b)
           × (is_match g.rows s.match_links a b ≡ true)
-      by None b i j m = absurd (some_there s.match_links [] m refl)
-      by (Some a) None i j m = absurd (some_there s.match_links [] m refl)
+      by None b i j m = absurd (some_if_met s.match_links [] m refl)
+      by (Some a) None i j m = absurd (some_if_met s.match_links [] m refl)
       by (Some a) (Some b) i j m = (a, b, i, j, m)
 
   pub linked_by : IsView g.rows g.id_at g.links → (v w : ℕ) (a b : Identifier) → g.id_at v ≡ Some a → g.id_at w ≡ Some b
@@ -63,7 +63,7 @@ module _ (tells : BytesTellIdentifiers) (old new : ViewSeen) (s : Search) (was :
   pub number_before : (w : ℕ) (a b : Identifier) → new.id_at w ≡ Some b → is_match old.rows s.match_links a b ≡ true
       → old.id_at w ≡ Some b
   number_before w a b j m =
-      let n = was.linked a b (is.canon w b j) (some_there s.match_links (stored_between a b old.rows) m)
+      let n = was.linked a b (is.canon w b j) (some_if_met s.match_links (stored_between a b old.rows) m)
       in subst (λ x. old.id_at x ≡ Some b) (is.one_to_one n.0 w b (change.numbers n.0 b n.1) j) n.1
 
   pub linked_before : (v w : ℕ) (a b : Identifier) → new.id_at v ≡ Some a → new.id_at w ≡ Some b
@@ -102,8 +102,8 @@ module _ (tells : BytesTellIdentifiers) (old new : ViewSeen) (s : Search) (was :
     flipped v w a b added marked i j m n = by_pair (pair_of a b) refl
       where
         no_pair : (c : Bool) → one_meets s.match_links [] ≡ not c → one_meets s.match_links [] ≡ c → ⊥
-        no_pair true e f = some_there s.match_links [] f refl
-        no_pair false e f = some_there s.match_links [] e refl
+        no_pair true e f = some_if_met s.match_links [] f refl
+        no_pair false e f = some_if_met s.match_links [] e refl
 
         -- the flip of the item of such a change is among them
         is_there : (x : Item) → pair_of a b ≡ Some x → (c : ItemChange) → Has changes c → c.item ≡ x → (flip : Flip)

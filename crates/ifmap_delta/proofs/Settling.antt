@@ -36,7 +36,7 @@ use Rattle.ifmap_delta.specs.Shown.{goes_on}
 use Rattle.ifmap_delta.specs.Sights.{AreMarks, ViewSeen}
 use Rattle.ifmap_delta.specs.Touched.{HasNothingToTell, brought_items, link_item, pair_item, is_looked_at_either, linked_items, moved_items, planned_items, turns}
 use Rattle.ifmap_delta.proofs.Flipping.{change_at, unchanged}
-use Rattle.ifmap_fresh.specs.laws.JoiningLaws.{match_turned, some_there}
+use Rattle.ifmap_fresh.specs.laws.JoiningLaws.{match_turned, some_if_met}
 use Rattle.ifmap_delta.proofs.Marking.{LevelsExpand, LevelsReach, expanded_is, expanded_marked, mark_named, marked_expanded}
 use Rattle.ifmap_delta.proofs.Marking.{marked_reached, reached_is, reached_marked}
 use Rattle.ifmap_fresh.specs.laws.SameLaws.{pair_canon, pair_is, pair_turned}
@@ -134,7 +134,7 @@ module _ (tells : BytesTellIdentifiers) (reach : LevelsReach) (expand : LevelsEx
         in let matches : one_meets s.match_links (stored_linked (new.id_at v) (new.id_at w) new.rows) ≡ true
         = ap (one_meets s.match_links) linked_is ∙ m
         in let there = map_has (λ (l : LinkSeen). l.other) (new.links v) w
-        (has_from _ w (is.each v w (some_there s.match_links (stored_linked (new.id_at v) (new.id_at w) new.rows) matches)))
+        (has_from _ w (is.each v w (some_if_met s.match_links (stored_linked (new.id_at v) (new.id_at w) new.rows) matches)))
         in let at : link_item new s v (Some there.0) ≡ Some x
         = ap (λ b. pair_item new s v (cond b (Some there.0.other) None))
         (ap (λ y. one_meets s.match_links (stored_linked (new.id_at v) (new.id_at y) new.rows)) there.2 ∙ matches)
@@ -190,8 +190,8 @@ module _ (tells : BytesTellIdentifiers) (reach : LevelsReach) (expand : LevelsEx
             → (is_expanded old.rows s a || is_expanded old.rows s b) ≡ (is_expanded new.rows s a || is_expanded new.rows s b)
         ends m =
             let turned : is_match new.rows s.match_links b a ≡ true = match_turned new.rows s.match_links b a ∙ m
-            in let v = is.linked b a i.identifiers.0 (some_there s.match_links (stored_between b a new.rows) turned)
-            in let w = is.linked a b i.identifiers.1.0 (some_there s.match_links (stored_between a b new.rows) m)
+            in let v = is.linked b a i.identifiers.0 (some_if_met s.match_links (stored_between b a new.rows) turned)
+            in let w = is.linked a b i.identifiers.1.0 (some_if_met s.match_links (stored_between a b new.rows) m)
             in let p : pair_of a b ≡ Some (Pair a b) = pair_is a b i.ordered
             in ap (λ c. c || is_expanded old.rows s b) (end_settled v.0 w.0 a b (Pair a b) v.1 w.1 m p out)
             ∙ ap (λ c. is_expanded new.rows s a || c) (end_settled w.0 v.0 b a (Pair a b) w.1 v.1 turned (pair_turned b a ∙ p) out)

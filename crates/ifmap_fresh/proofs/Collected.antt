@@ -42,7 +42,7 @@ use Rattle.ifmap_fresh.specs.Matching.{is_match, is_terminal, one_meets}
 use Rattle.ifmap_fresh.specs.Numbered.{HaveMatchingLink, is_terminal_number}
 use Rattle.ifmap_fresh.specs.Reached.{is_expanded, is_reached}
 use Rattle.ifmap_fresh.specs.laws.GatheringLaws.{gathers, items_grouped, all_items, row_entry}
-use Rattle.ifmap_fresh.specs.laws.JoiningLaws.{match_turned, some_there}
+use Rattle.ifmap_fresh.specs.laws.JoiningLaws.{match_turned, some_if_met}
 use Rattle.ifmap_fresh.proofs.Levels.{expanded_walk, reached_by_walks, walk_expanded}
 use Rattle.ifmap_fresh.proofs.Meaning.{mark_walk, to_identifier, to_number, walk_mark}
 use Rattle.ifmap_fresh.specs.laws.SameLaws.{member, pair_canon, pair_is, pair_parts, pair_turned}
@@ -190,7 +190,7 @@ module _ (tells : BytesTellIdentifiers) (rows : List Attachment) (id_at : ℕ �
       = ap (λ o. stored_linked o (id_at w) rows) i ∙ ap (λ o. stored_linked (Some a) o rows) j
       in let matches : one_meets s.match_links (stored_linked (id_at v) (id_at w) rows) ≡ true = ap (one_meets s.match_links) linked ∙ m
       in let there = map_has (λ (l : LinkSeen). l.other) (links v) w
-      (has_from _ w (is.each v w (some_there s.match_links (stored_linked (id_at v) (id_at w) rows) matches)))
+      (has_from _ w (is.each v w (some_if_met s.match_links (stored_linked (id_at v) (id_at w) rows) matches)))
       in let along : item_along rows id_at links s mark v there.0 ≡ Some item
       = ap (λ b. item_where rows id_at links s mark v (cond b (Some there.0.other) None))
       (ap (λ x. one_meets s.match_links (stored_linked (id_at v) (id_at x) rows)) there.2 ∙ matches)
@@ -207,7 +207,7 @@ module _ (tells : BytesTellIdentifiers) (rows : List Attachment) (id_at : ℕ �
       → Has (items_of_numbers rows id_at links s mark keys) item
   from_end a b item i j m e x =
       let v = expanded_passed a i x
-      in let w = is.linked a b j (some_there s.match_links (stored_between a b rows) m)
+      in let w = is.linked a b j (some_if_met s.match_links (stored_between a b rows) m)
       in elim (cases_Bool (nat_lt w.0 v.0 && is_crossed w.0)) [
         | inr f ↦ brings v.0 w.0 a b item v.1 w.1 v.2 f m e v.3
         | inl t ↦ let p = and_parts (nat_lt w.0 v.0) (is_crossed w.0) t

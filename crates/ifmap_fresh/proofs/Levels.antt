@@ -16,7 +16,7 @@ use Rattle.ifmap_view.specs.Rows.{stored_between}
 use Rattle.ifmap_fresh.specs.Matching.{LinksTo, is_match, is_terminal}
 use Rattle.ifmap_fresh.specs.Reached.{identifiers_in, is_below, is_expanded, is_reached, is_within, next_to, within}
 use Rattle.ifmap_fresh.specs.Walked.{SearchWalk}
-use Rattle.ifmap_fresh.specs.laws.JoiningLaws.{some_there, stands_in}
+use Rattle.ifmap_fresh.specs.laws.JoiningLaws.{some_if_met, stands_in}
 use Rattle.ifmap_fresh.specs.laws.SameLaws.{member}
 use Rattle.ifmap_ident.specs.SameLaws.{identifier_itself, BytesTellIdentifiers, same_is}
 
@@ -50,7 +50,7 @@ module _ (tells : BytesTellIdentifiers) (rows : List Attachment) (items : AllByR
   next_has : (a b : Identifier) → IsIdentifier a → T a ≡ false → M a b → Has (next_to rows s a) b
   next_has a b i t m =
       rw t (has_filter (is_match rows s.match_links a) (identifiers_in rows) b
-      (stands_in tells rows items a b i m.0 (some_there s.match_links (stored_between a b rows) m.1)) m.1)
+      (stands_in tells rows items a b i m.0 (some_if_met s.match_links (stored_between a b rows) m.1)) m.1)
 
   has_next : (a b : Identifier) → Has (next_to rows s a) b → (T a ≡ false) × M a b
   has_next a b h = by (T a) refl h

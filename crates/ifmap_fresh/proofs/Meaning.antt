@@ -15,13 +15,13 @@ use Rattle.ifmap_fresh.specs.Linking.{IsReachedAt, is_terminal_at}
 use Rattle.ifmap_fresh.specs.Matching.{IsMatch, LinksTo, is_terminal, one_meets}
 use Rattle.ifmap_fresh.specs.Numbered.{HaveMatchingLink, KeepsWalks, NumberWalk, is_terminal_number}
 use Rattle.ifmap_fresh.specs.Walked.{SearchWalk}
-use Rattle.ifmap_fresh.specs.laws.JoiningLaws.{count, linked_matches, matches_linked, some_there}
+use Rattle.ifmap_fresh.specs.laws.JoiningLaws.{count, linked_matches, matches_linked, some_if_met}
 
 module _ (rows : List Attachment) (id_at : ℕ → Option Identifier) (links : ℕ → List LinkSeen) (s : Search) (is : IsView rows id_at links)
     (start : ℕ) (here : id_at start ≡ Some s.start) where
   far : (a : Identifier) (o : Option Identifier) → one_meets s.match_links (stored_linked (Some a) o rows) ≡ true
       → (b : Identifier) × (o ≡ Some b) × IsMatch rows s.match_links a b
-  far a None e = absurd (some_there s.match_links _ e refl)
+  far a None e = absurd (some_if_met s.match_links _ e refl)
   far a (Some b) e = (b, refl, e)
 
   pub to_identifier : (k v : ℕ) → NumberWalk rows id_at links s start k v → (a : Identifier) × (id_at v ≡ Some a) × SearchWalk rows s k a
@@ -36,7 +36,7 @@ module _ (rows : List Attachment) (id_at : ℕ → Option Identifier) (links : �
   to_number zero a (begins e) = (start, here ∙ ap Some (sym e), begins refl)
   to_number (suc k) b (goes_on {u = a} w t m) =
       let before = to_number k a w
-      in let next = is.linked a b m.0 (some_there s.match_links _ m.1)
+      in let next = is.linked a b m.0 (some_if_met s.match_links _ m.1)
       in (
         next.0,
         next.1,

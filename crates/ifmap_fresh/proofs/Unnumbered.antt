@@ -17,7 +17,7 @@ use Rattle.ifmap_fresh.specs.Fresh.{is_looked_at}
 use Rattle.ifmap_fresh.specs.Matching.{IsMatch, is_match}
 use Rattle.ifmap_fresh.specs.Reached.{is_expanded}
 use Rattle.ifmap_fresh.specs.Walked.{SearchWalk}
-use Rattle.ifmap_fresh.specs.laws.JoiningLaws.{match_turned, some_there}
+use Rattle.ifmap_fresh.specs.laws.JoiningLaws.{match_turned, some_if_met}
 use Rattle.ifmap_fresh.proofs.Levels.{expanded_walk, reached_by_walks}
 use Rattle.ifmap_ident.specs.SameLaws.{BytesTellIdentifiers}
 
@@ -26,7 +26,7 @@ module _ (tells : BytesTellIdentifiers) (rows : List Attachment) (id_at : ℕ �
     (start : IsIdentifier s.start) (unnumbered : (v : ℕ) → id_at v ≡ Some s.start → ⊥) where
   no_match : (b : Identifier) → IsMatch rows s.match_links s.start b → ⊥
   no_match b m =
-      let w = is.linked b s.start start (some_there s.match_links (stored_between b s.start rows)
+      let w = is.linked b s.start start (some_if_met s.match_links (stored_between b s.start rows)
       (match_turned rows s.match_links b s.start ∙ m))
       in unnumbered w.0 w.1
 

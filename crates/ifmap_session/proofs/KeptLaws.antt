@@ -12,7 +12,7 @@ use Rattle.ifmap_search.specs.declared.results.PollItem.{PollItem}
 use Rattle.ifmap_session.specs.declared.holders.Holder.{Holder}
 use Rattle.ifmap_session.specs.declared.rows.SessionRow.{SessionRow}
 use Rattle.ifmap_session.specs.SessionIds.{session_id}
-use Rattle.ifmap_session.specs.Rows.{AreHolders, AreRows, AreStamps, ChangesSeat, AreTied, HasOwnSerial, Rewrites, live_of, spare_in}
+use Rattle.ifmap_session.specs.Rows.{AreHolders, AreRows, AreStamps, ChangesSeat, AreTied, HasOwnSerial, Rewrites, live_in, spare_in}
 use Rattle.ifmap_session.specs.Seats.{Seat}
 use Rattle.ifmap_session.specs.Sessions.{Session, change, session_with_serial, spare_of, with_error, with_item, with_last, without_items, without_name}
 use Rattle.ifmap_session.specs.Stamps.{Restamps, no_stamp}
@@ -41,10 +41,10 @@ pub record Rewritten (counter n : ℕ) (f : Session → Session) (P : Seat → S
   pub before : Seat
   pub after : Seat
   pub holds : P before after
-  pub there : session_with_serial n (live_of rows) ≡ Some before.session
+  pub there : session_with_serial n (live_in rows) ≡ Some before.session
   pub sessions : AreRows counter new
   pub clients : AreHolders new holders
-  pub live : live_of new ≡ change n f (live_of rows)
+  pub live : live_in new ≡ change n f (live_in rows)
   pub others : (other : ℕ) → other ≢ n → spare_of other (spare_in new) ≡ spare_of other (spare_in rows)
   pub was : spare_of n (spare_in rows) ≡ before.spare
   pub is : spare_of n (spare_in new) ≡ after.spare

@@ -9,7 +9,7 @@ use Rattle.std.specs.Ordering.{is_eq, nat_cmp}
 use Rattle.std.specs.Result.{result_ok}
 use Rattle.ifmap_lemmas.specs.Numbers.{equal_by_order, ties_where_equal}
 use Rattle.ifmap_session.specs.declared.rows.SessionRow.{SessionRow}
-use Rattle.ifmap_session.specs.Rows.{AreOwn, live_of, serial_at}
+use Rattle.ifmap_session.specs.Rows.{AreOwn, live_in, serial_at}
 use Rattle.ifmap_session.specs.Places.{IsPlaceOf}
 use Rattle.ifmap_session.specs.Seats.{Seat}
 use Rattle.ifmap_session.specs.Sessions.{session_with_serial}
@@ -19,7 +19,7 @@ use Rattle.ifmap_lemmas.specs.Finding.{none_passes}
 
 module _ (rows : List SessionRow) (n : ℕ) (o : AreOwn rows) where
   pub nowhere : (r : Result ℕ ℕ) → IsSearchInRange r (length rows) → IsBinarySearchResult (λ (x : SessionRow). nat_cmp x.serial n) rows r
-      → result_ok r ≡ None → session_with_serial n (live_of rows) ≡ None
+      → result_ok r ≡ None → session_with_serial n (live_in rows) ≡ None
   nowhere (Ok i) within is e = cc
   nowhere (Err i) within is e =
       let place : IsPlaceOf (λ (x : SessionRow). x.serial == n) rows (Err i) =
@@ -51,13 +51,13 @@ module _ (rows : List SessionRow) (n : ℕ) (o : AreOwn rows) where
       (p.0, some_at i x.kept (subst (λ (y : SessionRow). is_some y.kept ≡ true) (sym at) some) p.1)
 
   none_at : (i : ℕ) (kept : Option Seat) → is_some kept ≡ false → slice_get rows i ≡ Some (record { serial = n; kept = kept })
-      → session_with_serial n (live_of rows) ≡ None
+      → session_with_serial n (live_in rows) ≡ None
   none_at i None none e = none_in_row n rows i o.rising o.own e
   none_at i (Some seat) none e = cc
 
   pub row_empty : (r : Result ℕ ℕ) (i : ℕ) (x : SessionRow) → IsSearchInRange r (length rows)
       → IsBinarySearchResult (λ (x : SessionRow). nat_cmp x.serial n) rows r → result_ok r ≡ Some i → x ≡ get_or rows i x
-      → is_some (get_or rows i x).kept ≡ false → session_with_serial n (live_of rows) ≡ None
+      → is_some (get_or rows i x).kept ≡ false → session_with_serial n (live_in rows) ≡ None
   row_empty r i x within is e at none = let p = at_place r i x within is e at in
       none_at i x.kept (subst (λ (y : SessionRow). is_some y.kept ≡ false) (sym at) none) p.1
 

@@ -17,7 +17,7 @@ use Rattle.ifmap_lemmas.specs.Found.{find_push}
 use Rattle.ifmap_lemmas.specs.Inserted.{all_set}
 use Rattle.ifmap_lemmas.specs.Places.{all_got}
 use Rattle.ifmap_session.specs.declared.rows.SessionRow.{SessionRow}
-use Rattle.ifmap_session.specs.Rows.{AreOwn, HasOwnSerial, live_of, serial_order, seats_of, spare_in}
+use Rattle.ifmap_session.specs.Rows.{AreOwn, HasOwnSerial, live_in, serial_order, seats_of, spare_in}
 use Rattle.ifmap_session.specs.Seats.{Seat}
 use Rattle.ifmap_session.specs.Sessions.{Session, change, session_with_serial, spare_of, without_sessions}
 use Rattle.ifmap_lemmas.specs.Members.{all_last}
@@ -107,7 +107,7 @@ below_differs r (z ∷ rows) zero n kept up e =
     grind (arith, nat_tests)
 below_differs r (z ∷ rows) (suc i) n kept up e = below_differs r rows i n kept up.1 e
 
-pub none_of : (n : ℕ) (rows : List SessionRow) → Own rows → Others n rows → session_with_serial n (live_of rows) ≡ None
+pub none_of : (n : ℕ) (rows : List SessionRow) → Own rows → Others n rows → session_with_serial n (live_in rows) ≡ None
 none_of n [] own others = refl
 none_of n (r ∷ rows) own others =
     find_past the_session (λ s. s.serial == n) r.kept (seats_of rows) (differs n r.serial r.kept own.0 others.0)
@@ -118,7 +118,7 @@ module _ (n : ℕ) where
   own_is r a own same = subst (λ (x : SessionRow). IfSome x.kept (HasOwnSerial x.serial)) same own
 
   pub found_in_row : (rows : List SessionRow) (i : ℕ) (a : Seat) → Up rows → Own rows → slice_get rows i ≡ Some (row_of n a)
-      → session_with_serial n (live_of rows) ≡ Some a.session
+      → session_with_serial n (live_in rows) ≡ Some a.session
   unfolding IsStrictlySortedBy
   found_in_row [] i a up own e = cc
   found_in_row (r ∷ rows) zero a up own e =
@@ -131,7 +131,7 @@ module _ (n : ℕ) where
       ∙ found_in_row rows i a up.1 own.1 e
 
   pub none_in_row : (rows : List SessionRow) (i : ℕ) → Up rows → Own rows → slice_get rows i ≡ Some (empty_row n)
-      → session_with_serial n (live_of rows) ≡ None
+      → session_with_serial n (live_in rows) ≡ None
   unfolding IsStrictlySortedBy
   none_in_row [] i up own e = cc
   none_in_row (r ∷ rows) zero up own e =
@@ -145,16 +145,16 @@ module _ (n : ℕ) where
 
   -- the session of the row changes
   module _ (f : Session → Session) where
-    others_stay : (rows : List SessionRow) → Own rows → Others n rows → change n f (live_of rows) ≡ live_of rows
+    others_stay : (rows : List SessionRow) → Own rows → Others n rows → change n f (live_in rows) ≡ live_in rows
     others_stay [] own others = refl
     others_stay (r ∷ rows) own others =
-        map_past the_session (λ s. cond (s.serial == n) (f s) s) r.kept (seats_of rows) (live_of rows)
+        map_past the_session (λ s. cond (s.serial == n) (f s) s) r.kept (seats_of rows) (live_in rows)
         (weaker_own r.serial (λ s. cond (s.session.serial == n) (f s.session) s.session ≡ s.session)
         (λ s is. rw (is, others.0) refl) r.kept own.0) (others_stay rows own.1 others.1)
         ∙ sym (front_is the_session r.kept (seats_of rows))
 
     pub changed_in_row : (rows : List SessionRow) (i : ℕ) (a b : Seat) → Up rows → Own rows → slice_get rows i ≡ Some (row_of n a)
-        → b.session ≡ f a.session → live_of (set rows i (row_of n b)) ≡ change n f (live_of rows)
+        → b.session ≡ f a.session → live_in (set rows i (row_of n b)) ≡ change n f (live_in rows)
     unfolding IsStrictlySortedBy
     changed_in_row [] i a b up own e is = cc
     changed_in_row (r ∷ rows) zero a b up own e is =
@@ -166,7 +166,7 @@ module _ (n : ℕ) where
     changed_in_row (r ∷ rows) (suc i) a b up own e is =
         front_is the_session r.kept (seats_of (set rows i (row_of n b)))
         ∙ ap (λ xs. map the_session (option_to_list r.kept) ++ xs) (changed_in_row rows i a b up.1 own.1 e is)
-        ∙ sym (map_past the_session (λ s. cond (s.serial == n) (f s) s) r.kept (seats_of rows) (change n f (live_of rows))
+        ∙ sym (map_past the_session (λ s. cond (s.serial == n) (f s) s) r.kept (seats_of rows) (change n f (live_in rows))
         (weaker_own r.serial (λ s. cond (s.session.serial == n) (f s.session) s.session ≡ s.session)
         (λ s is. rw (is, below_differs r rows i n (Some a) up.0 e) refl) r.kept own.0) refl)
 
@@ -177,16 +177,16 @@ module _ (n : ℕ) where
   goes : (s : Session) → s.serial ≡ n → not (list_any (λ m. m == s.serial) (n ∷ [])) ≡ false
   goes s e = grind (arith, nat_tests)
 
-  others_left : (rows : List SessionRow) → Own rows → Others n rows → without_sessions (n ∷ []) (live_of rows) ≡ live_of rows
+  others_left : (rows : List SessionRow) → Own rows → Others n rows → without_sessions (n ∷ []) (live_in rows) ≡ live_in rows
   others_left [] own others = refl
   others_left (r ∷ rows) own others =
-      filter_past the_session (λ s. not (list_any (λ m. m == s.serial) (n ∷ []))) r.kept (seats_of rows) (live_of rows)
+      filter_past the_session (λ s. not (list_any (λ m. m == s.serial) (n ∷ []))) r.kept (seats_of rows) (live_in rows)
       (weaker_own r.serial (λ s. not (list_any (λ m. m == s.session.serial) (n ∷ [])) ≡ true)
       (λ s is. stays s.session (rw is others.0)) r.kept own.0) (others_left rows own.1 others.1)
       ∙ sym (front_is the_session r.kept (seats_of rows))
 
   pub ended_in_row : (rows : List SessionRow) (i : ℕ) (a : Seat) → Up rows → Own rows → slice_get rows i ≡ Some (row_of n a)
-      → live_of (set rows i (empty_row n)) ≡ without_sessions (n ∷ []) (live_of rows)
+      → live_in (set rows i (empty_row n)) ≡ without_sessions (n ∷ []) (live_in rows)
   unfolding IsStrictlySortedBy
   ended_in_row [] i a up own e = cc
   ended_in_row (r ∷ rows) zero a up own e =
@@ -198,7 +198,7 @@ module _ (n : ℕ) where
       front_is the_session r.kept (seats_of (set rows i (empty_row n)))
       ∙ ap (λ xs. map the_session (option_to_list r.kept) ++ xs) (ended_in_row rows i a up.1 own.1 e)
       ∙ sym (filter_past the_session (λ s. not (list_any (λ m. m == s.serial) (n ∷ []))) r.kept (seats_of rows)
-      (without_sessions (n ∷ []) (live_of rows))
+      (without_sessions (n ∷ []) (live_in rows))
       (weaker_own r.serial (λ s. not (list_any (λ m. m == s.session.serial) (n ∷ [])) ≡ true)
       (λ s is. stays s.session (rw is (below_differs r rows i n (Some a) up.0 e))) r.kept own.0) refl)
 
@@ -320,7 +320,7 @@ seats_push (r ∷ rows) n a =
       | Some s ↦ ap (λ xs. s ∷ xs) (seats_push rows n a)
     ]
 
-pub begun_last : (rows : List SessionRow) (n : ℕ) (a : Seat) → live_of (rows ++ row_of n a ∷ []) ≡ live_of rows ++ a.session ∷ []
+pub begun_last : (rows : List SessionRow) (n : ℕ) (a : Seat) → live_in (rows ++ row_of n a ∷ []) ≡ live_in rows ++ a.session ∷ []
 begun_last rows n a = ap (map the_session) (seats_push rows n a) ∙ map-append the_session (seats_of rows) (a ∷ [])
 
 pub spare_begun : (rows : List SessionRow) (n : ℕ) (a : Seat) → a.session.serial ≡ n → (other : ℕ) → other ≢ n
@@ -357,12 +357,12 @@ count_one : (r : SessionRow) (o : Option Seat) (rest : List SessionRow) (seats :
 count_one r None rest seats same = same
 count_one r (Some s) rest seats same = ap (λ n. suc n) same
 
-pub full_length : (rows : List SessionRow) → length (filter (λ (r : SessionRow). is_some r.kept) rows) ≡ length (live_of rows)
+pub full_length : (rows : List SessionRow) → length (filter (λ (r : SessionRow). is_some r.kept) rows) ≡ length (live_in rows)
 full_length [] = refl
 full_length (r ∷ rows) = count_one r r.kept (filter (λ (r : SessionRow). is_some r.kept) rows) (seats_of rows) (full_length rows)
 
 pub few_rows : (rows new : List SessionRow) (live : ℕ) → new ≡ filter (λ (r : SessionRow). is_some r.kept) rows
-    → live ≡ length (live_of rows)
+    → live ≡ length (live_in rows)
     → length new ≡ live
 few_rows rows new live e counts = ap length e ∙ full_length rows ∙ sym counts
 
@@ -371,6 +371,6 @@ kept_few : (o : Option Seat) (rows : List SessionRow) (seats : List Seat) → le
 kept_few None rows seats h = omega arith
 kept_few (Some s) rows seats h = omega arith
 
-pub live_few : (rows : List SessionRow) → length (live_of rows) ≤ length rows
+pub live_few : (rows : List SessionRow) → length (live_in rows) ≤ length rows
 live_few [] = omega arith
 live_few (r ∷ rows) = kept_few r.kept rows (seats_of rows) (live_few rows)

@@ -25,7 +25,7 @@ use Rattle.ifmap_lemmas.specs.Inserted.{find_insert, place_for}
 use Rattle.ifmap_lemmas.specs.Options.{or_none, some_none}
 use Rattle.ifmap_session.specs.declared.holders.Holder.{Holder}
 use Rattle.ifmap_session.specs.declared.rows.SessionRow.{SessionRow}
-use Rattle.ifmap_session.specs.Rows.{AreHolders, AreOwn, AreRows, HasOwnSerial, client_order, holder_of, live_of, serial_order, seats_of}
+use Rattle.ifmap_session.specs.Rows.{AreHolders, AreOwn, AreRows, HasOwnSerial, client_order, holder_of, live_in, serial_order, seats_of}
 use Rattle.ifmap_session.specs.Places.{IsPlaceFor, IsPlaceOf}
 use Rattle.ifmap_session.specs.Seats.{Seat}
 use Rattle.ifmap_session.specs.SessionIds.{BeginsWithSerial, hyphen}
@@ -259,10 +259,10 @@ client_live live c serial e = go (session_of_client c live) refl e where
 -- what holds of the sessions of rows
 pub all_live : (P : Session → Type 0) (rows : List SessionRow)
     → AllByRecursion (λ (r : SessionRow). IfSome r.kept (λ (s : Seat). P s.session)) rows
-    → AllByRecursion P (live_of rows)
+    → AllByRecursion P (live_in rows)
 all_live P [] all = tt
 all_live P (r ∷ rows) all = one r.kept all.0 (all_live P rows all.1) where
-  one : (o : Option Seat) → IfSome o (λ (s : Seat). P s.session) → AllByRecursion P (live_of rows)
+  one : (o : Option Seat) → IfSome o (λ (s : Seat). P s.session) → AllByRecursion P (live_in rows)
       → AllByRecursion P (map (λ (s : Seat). s.session) (option_to_list o ++ seats_of rows))
   one None h rest = rest
   one (Some s) h rest = (h, rest)
@@ -272,7 +272,7 @@ if_some None P Q f h = tt
 if_some (Some s) P Q f h = f s h
 
 pub live_counted : (counter : ℕ) (rows : List SessionRow) → AllByRecursion (λ (r : SessionRow). r.serial ≤ counter) rows → Own rows
-    → AllByRecursion (λ (s : Session). s.serial ≤ counter) (live_of rows)
+    → AllByRecursion (λ (s : Session). s.serial ≤ counter) (live_in rows)
 live_counted counter rows counted own = all_live (λ s. s.serial ≤ counter) rows (both rows counted own) where
   both : (rows : List SessionRow) → AllByRecursion (λ (r : SessionRow). r.serial ≤ counter) rows → Own rows
       → AllByRecursion (λ (r : SessionRow). IfSome r.kept (λ (s : Seat). s.session.serial ≤ counter)) rows
@@ -280,14 +280,14 @@ live_counted counter rows counted own = all_live (λ s. s.serial ≤ counter) ro
   both (r ∷ rows) c o =
       (if_some r.kept (HasOwnSerial r.serial) (λ s. s.session.serial ≤ counter) (λ s h. rw h.numbered c.0) o.0, both rows c.1 o.1)
 
-pub live_ids : (rows : List SessionRow) → Own rows → AllByRecursion (λ (s : Session). BeginsWithSerial s.serial s.id) (live_of rows)
+pub live_ids : (rows : List SessionRow) → Own rows → AllByRecursion (λ (s : Session). BeginsWithSerial s.serial s.id) (live_in rows)
 live_ids rows own = all_live (λ s. BeginsWithSerial s.serial s.id) rows (all_weaker
     (λ (r : SessionRow). IfSome r.kept (HasOwnSerial r.serial))
     (λ (r : SessionRow). IfSome r.kept (λ (s : Seat). BeginsWithSerial s.session.serial s.session.id))
     (λ r h. if_some r.kept (HasOwnSerial r.serial) (λ s. BeginsWithSerial s.session.serial s.session.id) (λ s k. rw k.numbered k.id) h)
     rows own)
 
-pub live_up : (rows : List SessionRow) → Up rows → Own rows → IsStrictlySortedBy session_order (live_of rows)
+pub live_up : (rows : List SessionRow) → Up rows → Own rows → IsStrictlySortedBy session_order (live_in rows)
 unfolding IsStrictlySortedBy
 live_up [] up own = tt
 live_up (r ∷ rows) up own = one r.kept own.0 (live_up rows up.1 own.1) where
@@ -300,7 +300,7 @@ live_up (r ∷ rows) up own = one r.kept own.0 (live_up rows up.1 own.1) where
     above s e rows all.1 own.1,
   )
 
-  one : (o : Option Seat) → IfSome o (HasOwnSerial r.serial) → IsStrictlySortedBy session_order (live_of rows)
+  one : (o : Option Seat) → IfSome o (HasOwnSerial r.serial) → IsStrictlySortedBy session_order (live_in rows)
       → IsStrictlySortedBy session_order (map (λ (s : Seat). s.session) (option_to_list o ++ seats_of rows))
   one None h rest = rest
   one (Some s) h rest = (all_live (λ t. session_order s.session t ≡ Less) rows (above s h.numbered rows up.0 own.1), rest)
@@ -310,7 +310,7 @@ pub rows_changed : (counter n : ℕ) (f : Session → Session) (rows : List Sess
     counter rows
     → slice_get rows i ≡ Some (row_of n a) → HasOwnSerial n a → b.session ≡ f a.session → AreRows counter (set rows i (row_of n b))
 rows_changed counter n f rows i a b k kept e own is =
-    let live : live_of (set rows i (row_of n b)) ≡ change n f (live_of rows) =
+    let live : live_in (set rows i (row_of n b)) ≡ change n f (live_in rows) =
     changed_in_row n f rows i a b kept.own.rising kept.own.own e is in
     record {
       small = kept.small;
@@ -319,8 +319,8 @@ rows_changed counter n f rows i a b k kept e own is =
         id = rw (is, k.id a.session) own.id;
       });
       counted = counted_set counter n rows i a (Some b) kept.counted e;
-      apart = rw (live, clients_same n f k (live_of rows)) kept.apart;
-      few = rw (live, length_same n f (live_of rows)) kept.few;
+      apart = rw (live, clients_same n f k (live_in rows)) kept.apart;
+      few = rw (live, length_same n f (live_in rows)) kept.few;
     }
 
 pub holders_changed : (n : ℕ) (f : Session → Session) (rows : List SessionRow) (holders : List Holder) (i : ℕ) (a b : Seat) →
@@ -329,26 +329,26 @@ pub holders_changed : (n : ℕ) (f : Session → Session) (rows : List SessionRo
     → AreHolders rows holders → slice_get rows i ≡ Some (row_of n a) → b.session ≡ f a.session
     → AreHolders (set rows i (row_of n b)) holders
 holders_changed n f rows holders i a b k own h e is =
-    let live : live_of (set rows i (row_of n b)) ≡ change n f (live_of rows) = changed_in_row n f rows i a b own.rising own.own e is in
+    let live : live_in (set rows i (row_of n b)) ≡ change n f (live_in rows) = changed_in_row n f rows i a b own.rising own.own e is in
     record {
       ordered = h.ordered;
       indexed = λ c. h.indexed c ∙ sym (ap (λ xs. option_map (λ (s : Session). s.serial) (session_of_client c xs)) live
-          ∙ client_changed n f k c (live_of rows));
-      counts = h.counts ∙ sym (ap length live ∙ length_same n f (live_of rows));
+          ∙ client_changed n f k c (live_in rows));
+      counts = h.counts ∙ sym (ap length live ∙ length_same n f (live_in rows));
     }
 
 pub rows_ended : (counter n : ℕ) (rows : List SessionRow) (i : ℕ) (a : Seat) → AreRows counter rows → slice_get rows i ≡ Some (row_of n a)
     → AreRows counter (set rows i (empty_row n))
 rows_ended counter n rows i a kept e =
-    let live : live_of (set rows i (empty_row n)) ≡ filter (λ (t : Session). not (t.serial == n)) (live_of rows) =
-    ended_in_row n rows i a kept.own.rising kept.own.own e ∙ sym (without_one n (live_of rows)) in
+    let live : live_in (set rows i (empty_row n)) ≡ filter (λ (t : Session). not (t.serial == n)) (live_in rows) =
+    ended_in_row n rows i a kept.own.rising kept.own.own e ∙ sym (without_one n (live_in rows)) in
     record {
       small = kept.small;
       own = own_set n rows i a None kept.own e tt;
       counted = counted_set counter n rows i a None kept.counted e;
-      apart = rw live (keys_filter is_same_text (λ (t : Session). t.client) (λ (t : Session). not (t.serial == n)) (live_of rows)
+      apart = rw live (keys_filter is_same_text (λ (t : Session). t.client) (λ (t : Session). not (t.serial == n)) (live_in rows)
           kept.apart);
-      few = let less = filter_shorter (λ (t : Session). not (t.serial == n)) (live_of rows) in let few = kept.few in rw live (omega arith);
+      few = let less = filter_shorter (λ (t : Session). not (t.serial == n)) (live_in rows) in let few = kept.few in rw live (omega arith);
     }
 
 pub own_at : (n : ℕ) (rows : List SessionRow) (i : ℕ) (a : Seat) → Own rows → slice_get rows i ≡ Some (row_of n a) → HasOwnSerial n a
@@ -360,23 +360,23 @@ own_at n (r ∷ rows) (suc i) a own e = own_at n rows i a own.1 e
 -- the session that an id names, by the serial that is read from the id
 module _ (counter : ℕ) (rows : List SessionRow) (id : List ℕ) (read : Option ℕ) (kept : AreRows counter rows)
     (reads : (n : ℕ) (rest : List ℕ) → n < 2 ^ 64 → id ≡ decimal n ++ hyphen ∷ rest → read ≡ Some n) where
-  id_leads_in_rows : AllByRecursion (λ (s : Session). is_same_text s.id id ≡ true → read ≡ Some s.serial) (live_of rows)
-  id_leads_in_rows = id_leads counter (live_of rows) id read kept.small (live_counted counter rows kept.counted kept.own.own)
+  id_leads_in_rows : AllByRecursion (λ (s : Session). is_same_text s.id id ≡ true → read ≡ Some s.serial) (live_in rows)
+  id_leads_in_rows = id_leads counter (live_in rows) id read kept.small (live_counted counter rows kept.counted kept.own.own)
       (live_ids rows kept.own.own) reads
 
   -- none where no serial is read
-  pub none_unread : read ≡ None → session_with_id id (live_of rows) ≡ None
-  none_unread is = id_of_none (live_of rows) id read id_leads_in_rows is
+  pub none_unread : read ≡ None → session_with_id id (live_in rows) ≡ None
+  none_unread is = id_of_none (live_in rows) id read id_leads_in_rows is
 
   -- none where no session has the serial
-  pub none_of_serial : (n : ℕ) → read ≡ Some n → session_with_serial n (live_of rows) ≡ None → session_with_id id (live_of rows) ≡ None
-  none_of_serial n is none = id_nowhere (live_of rows) n id (leads_to n (live_of rows) id read is id_leads_in_rows) none
+  pub none_of_serial : (n : ℕ) → read ≡ Some n → session_with_serial n (live_in rows) ≡ None → session_with_id id (live_in rows) ≡ None
+  none_of_serial n is none = id_nowhere (live_in rows) n id (leads_to n (live_in rows) id read is id_leads_in_rows) none
 
   -- that of the serial's row, if it has the id
   pub one_in_row : (n i : ℕ) (seat : Seat) → read ≡ Some n → slice_get rows i ≡ Some (row_of n seat)
-      → session_with_id id (live_of rows) ≡ cond (is_same_text seat.session.id id) (Some seat.session) None
-  one_in_row n i seat is there = id_at (live_of rows) n id seat.session (live_up rows kept.own.rising kept.own.own)
-      (leads_to n (live_of rows) id read is id_leads_in_rows) (found_in_row n rows i seat kept.own.rising kept.own.own there)
+      → session_with_id id (live_in rows) ≡ cond (is_same_text seat.session.id id) (Some seat.session) None
+  one_in_row n i seat is there = id_at (live_in rows) n id seat.session (live_up rows kept.own.rising kept.own.own)
+      (leads_to n (live_in rows) id read is id_leads_in_rows) (found_in_row n rows i seat kept.own.rising kept.own.own there)
 
 count_less : (n : ℕ) (live : List Session) (s : Session) → IsStrictlySortedBy session_order live → session_with_serial n live ≡ Some s
     → suc (length (filter (λ (t : Session). not (t.serial == n)) live)) ≡ length live
@@ -400,14 +400,14 @@ holder_less k (x ∷ holders) zero less = refl
 holder_less k (x ∷ holders) (suc j) less = ap (λ m. suc m) (holder_less k holders j (omega arith))
 
 pub holders_ended : (n : ℕ) (rows : List SessionRow) (holders holders2 : List Holder) (i : ℕ) (a : Seat) (q : Result ℕ ℕ) (j : ℕ)
-    → IsDistinct is_same_text (map (λ (t : Session). t.client) (live_of rows)) → AreOwn rows → AreHolders rows holders
+    → IsDistinct is_same_text (map (λ (t : Session). t.client) (live_in rows)) → AreOwn rows → AreHolders rows holders
     → slice_get rows i ≡ Some (row_of n a) → IsPlaceOf (λ (h : Holder). is_same_text h.client a.session.client) holders q → q ≡ Ok j
     → holders2 ≡ remove holders j → AreHolders (set rows i (empty_row n)) holders2
 holders_ended n rows holders holders2 i a q j apart own h e place is rest =
     let up = live_up rows own.rising own.own in
-    let there : session_with_serial n (live_of rows) ≡ Some a.session = found_in_row n rows i a own.rising own.own e in
-    let live : live_of (set rows i (empty_row n)) ≡ filter (λ (t : Session). not (t.serial == n)) (live_of rows) =
-    ended_in_row n rows i a own.rising own.own e ∙ sym (without_one n (live_of rows)) in
+    let there : session_with_serial n (live_in rows) ≡ Some a.session = found_in_row n rows i a own.rising own.own e in
+    let live : live_in (set rows i (empty_row n)) ≡ filter (λ (t : Session). not (t.serial == n)) (live_in rows) =
+    ended_in_row n rows i a own.rising own.own e ∙ sym (without_one n (live_in rows)) in
     let at = subst (IsPlaceOf (λ (x : Holder). is_same_text x.client a.session.client) holders) is place in
     let left : holders2 ≡ filter (λ (x : Holder). not (is_same_text x.client a.session.client)) holders = rest ∙ at.2 in
     record {
@@ -418,19 +418,19 @@ holders_ended n rows holders holders2 i a q j apart own h e place is rest =
           (ap (option_map (λ (x : Holder). x.serial)) (holder_after holders a.session.client c)
           ∙ map_choice (λ (x : Holder). x.serial) (is_same_text a.session.client c) (holder_of c holders)
           ∙ ap (λ o. cond (is_same_text a.session.client c) None o) (h.indexed c)
-          ∙ sym (map_choice (λ (t : Session). t.serial) (is_same_text a.session.client c) (session_of_client c (live_of rows)))
-          ∙ sym (ap (option_map (λ (t : Session). t.serial)) (client_after (live_of rows) n a.session c up apart there)));
+          ∙ sym (map_choice (λ (t : Session). t.serial) (is_same_text a.session.client c) (session_of_client c (live_in rows)))
+          ∙ sym (ap (option_map (λ (t : Session). t.serial)) (client_after (live_in rows) n a.session c up apart there)));
       counts =
           let one : suc (length holders2) ≡ length holders =
           ap (λ xs. suc (length xs)) rest ∙ holder_less a.session.client holders j at.0 in
-          let other : suc (length (live_of (set rows i (empty_row n)))) ≡ length (live_of rows) =
-          ap (λ xs. suc (length xs)) live ∙ count_less n (live_of rows) a.session up there in
+          let other : suc (length (live_in (set rows i (empty_row n)))) ≡ length (live_in rows) =
+          ap (λ xs. suc (length xs)) live ∙ count_less n (live_in rows) a.session up there in
           let was = h.counts in
           omega arith;
     }
 
 pub rows_begun : (counter : ℕ) (rows : List SessionRow) (y : Seat) → AreRows counter rows → counter < 2 ^ 64 - 1
-    → session_of_client y.session.client (live_of rows) ≡ None → length (live_of rows) < most_sessions → HasOwnSerial (counter + 1) y
+    → session_of_client y.session.client (live_in rows) ≡ None → length (live_in rows) < most_sessions → HasOwnSerial (counter + 1) y
     → AreRows (counter + 1) (rows ++ row_of (counter + 1) y ∷ [])
 rows_begun counter rows y kept small none few own =
     let live = begun_last rows (counter + 1) y in
@@ -438,8 +438,8 @@ rows_begun counter rows y kept small none few own =
       small = omega arith;
       own = own_push counter rows (row_of (counter + 1) y) kept.own kept.counted (omega arith) own;
       counted = counted_push counter rows (row_of (counter + 1) y) kept.counted refl;
-      apart = rw live (keys_push is_same_text (λ (s : Session). s.client) (live_of rows) y.session kept.apart none);
-      few = rw live (length_more (live_of rows) y.session few);
+      apart = rw live (keys_push is_same_text (λ (s : Session). s.client) (live_in rows) y.session kept.apart none);
+      few = rw live (length_more (live_in rows) y.session few);
     } where
       length_more : (xs : List Session) (x : Session) → length xs < most_sessions → length (xs ++ x ∷ []) ≤ most_sessions
       length_more xs x less = let e = pushed xs x in omega arith where
@@ -459,7 +459,7 @@ pushed_length (z ∷ xs) x = ap (λ m. suc m) (pushed_length xs x)
 
 pub holders_begun : (n : ℕ) (rows : List SessionRow) (holders holders2 : List Holder) (y : Seat) (j : ℕ) (r : Result ℕ ℕ)
     → AreHolders rows holders
-    → session_of_client y.session.client (live_of rows) ≡ None → y.session.serial ≡ n
+    → session_of_client y.session.client (live_in rows) ≡ None → y.session.serial ≡ n
     → IsPlaceOf (λ (h : Holder). is_same_text h.client y.session.client) holders r → IfErr r (IsPlaceFor y.session.client holders) → r ≡
     Err j
     → holders2 ≡ insert holders j (record { client = y.session.client; serial = n })
@@ -472,17 +472,17 @@ holders_begun n rows holders holders2 y j r h none same place gap is entry =
       ordered = rw entry (open_at n);
       indexed = λ c. rw (entry, live) (subst (λ m. option_map
           (λ (x : Holder). x.serial) (holder_of c (insert holders j (record { client = y.session.client; serial = m }))) ≡ option_map
-          (λ (s : Session). s.serial) (session_of_client c (live_of rows ++ y.session ∷ []))) same
-          (begun_indexed y.session (live_of rows) holders j c none h.indexed));
+          (λ (s : Session). s.serial) (session_of_client c (live_in rows ++ y.session ∷ []))) same
+          (begun_indexed y.session (live_in rows) holders j c none h.indexed));
       counts = rw (
         entry,
         live,
         inserted_length holders j (record { client = y.session.client; serial = n }) at.0,
-        pushed_length (live_of rows) y.session,
+        pushed_length (live_in rows) y.session,
       ) (ap (λ m. suc m) h.counts);
     }
 
-pub live_filter : (rows : List SessionRow) → live_of (filter (λ (r : SessionRow). is_some r.kept) rows) ≡ live_of rows
+pub live_filter : (rows : List SessionRow) → live_in (filter (λ (r : SessionRow). is_some r.kept) rows) ≡ live_in rows
 live_filter rows = ap (map (λ (s : Seat). s.session)) (seats_filter rows)
 
 pub rows_filled : (counter : ℕ) (rows : List SessionRow) → AreRows counter rows
@@ -505,7 +505,7 @@ holders_filled rows holders h = record {
 
 -- where a client has no session its holder is missing, and where it has one it is there
 pub no_holder : (rows : List SessionRow) (holders : List Holder) (c : List ℕ) → AreHolders rows holders
-    → session_of_client c (live_of rows) ≡ None → holder_of c holders ≡ None
+    → session_of_client c (live_in rows) ≡ None → holder_of c holders ≡ None
 no_holder rows holders c h none = map_none (λ (x : Holder). x.serial) (holder_of c holders) (h.indexed c
     ∙ ap (option_map (λ (s : Session). s.serial)) none)
 
@@ -513,6 +513,6 @@ pub holder_is_there : (n : ℕ) (rows : List SessionRow) (holders : List Holder)
     → slice_get rows i ≡ Some (row_of n a) → IsSome (holder_of a.session.client holders)
 holder_is_there n rows holders i a own h e =
     some_alike (λ (x : Holder). x.serial) (λ (t : Session). t.serial) (holder_of a.session.client holders)
-    (session_of_client a.session.client (live_of rows)) (h.indexed a.session.client)
-    (found_again (λ (t : Session). t.serial == n) (λ (t : Session). is_same_text t.client a.session.client) (live_of rows) a.session
+    (session_of_client a.session.client (live_in rows)) (h.indexed a.session.client)
+    (found_again (λ (t : Session). t.serial == n) (λ (t : Session). is_same_text t.client a.session.client) (live_in rows) a.session
     (found_in_row n rows i a own.rising own.own e) (text_itself a.session.client))

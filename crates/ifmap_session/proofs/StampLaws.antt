@@ -15,7 +15,7 @@ use Rattle.std.specs.Option.{IfSome, option_map, option_to_list, unwrap_or}
 use Rattle.ifmap_lemmas.specs.Inserted.{push_elsewhere}
 use Rattle.ifmap_lemmas.specs.Places.{last_there, written_elsewhere, written_there}
 use Rattle.ifmap_session.specs.declared.rows.SessionRow.{SessionRow}
-use Rattle.ifmap_session.specs.Rows.{AreStamps, HasOwnSerial, IsStamped, due_rows, live_of, seats_of, serial_at, stamp_of}
+use Rattle.ifmap_session.specs.Rows.{AreStamps, HasOwnSerial, IsStamped, due_rows, live_in, seats_of, serial_at, stamp_of}
 use Rattle.ifmap_session.specs.Seats.{Seat}
 use Rattle.ifmap_session.specs.Sessions.{Session, expired_serials, is_expired}
 use Rattle.ifmap_session.specs.Stamps.{IsPower, IsTree, Restamps, node_value, due_nodes, is_any_due, is_due, no_stamp, numbers_from}
@@ -147,7 +147,7 @@ none_due tree limit base (suc n) low blank =
 due_one : (g : ℕ → ℕ) (tree : List ℕ) (limit base : ℕ) (serial : ℕ) (kept : Option Seat) (nodes : List ℕ) (rows : List SessionRow)
     → limit < no_stamp → IfSome kept (HasOwnSerial serial) → g base ≡ serial
     → node_value tree base ≡ stamp_of (record { serial = serial; kept = kept })
-    → map g (filter (is_due tree limit) nodes) ≡ map (λ (s : Session). s.serial) (filter (λ s. nat_le s.last limit) (live_of rows))
+    → map g (filter (is_due tree limit) nodes) ≡ map (λ (s : Session). s.serial) (filter (λ s. nat_le s.last limit) (live_in rows))
     → map g (filter (is_due tree limit) (base ∷ nodes)) ≡ map (λ (s : Session). s.serial) (filter
     (λ s. nat_le s.last limit) (map (λ (s : Seat). s.session) (option_to_list kept ++ seats_of rows)))
 due_one g tree limit base serial None nodes rows low own named stamp rest = rw (never_due tree limit base low stamp) rest
@@ -162,7 +162,7 @@ due_all : (g : ℕ → ℕ) (tree : List ℕ) (limit base n : ℕ) (rows : List 
     → ((p : ℕ) (r : SessionRow) → slice_get rows p ≡ Some r → g (base + p) ≡ r.serial)
     → ((p : ℕ) → p < n → node_value tree (base + p) ≡ stamp_in (slice_get rows p))
     → map g (filter (is_due tree limit) (numbers_from base n)) ≡ map (λ (s : Session). s.serial) (filter
-    (λ s. nat_le s.last limit) (live_of rows))
+    (λ s. nat_le s.last limit) (live_in rows))
 due_all g tree limit base n [] low own fits named stamped =
     ap (map g) (none_due tree limit base n low (λ p less. stamped p less))
 due_all g tree limit base zero (r ∷ rows) low own fits named stamped = absurd (omega arith)
@@ -176,15 +176,15 @@ due_all g tree limit base (suc n) (r ∷ rows) low own fits named stamped =
 
 pub due_serials : (width : ℕ) (tree : List ℕ) (rows : List SessionRow) (moment ttl limit : ℕ) → limit < no_stamp → limit + ttl ≡ moment
     → Own rows → length rows ≤ width → IsStamped rows width tree
-    → map (λ node. serial_at rows (node - width)) (due_nodes width tree limit) ≡ expired_serials moment ttl (live_of rows)
+    → map (λ node. serial_at rows (node - width)) (due_nodes width tree limit) ≡ expired_serials moment ttl (live_in rows)
 due_serials width tree rows moment ttl limit low e own fits stamped =
     due_all (λ node. serial_at rows (node - width)) tree limit width width rows low own fits
     (λ p r got. let back : width + p - width ≡ p = omega arith in rw (back, got) refl) stamped
-    ∙ ap (map (λ (s : Session). s.serial)) (sym (expired_by moment ttl limit e (live_of rows)))
+    ∙ ap (map (λ (s : Session). s.serial)) (sym (expired_by moment ttl limit e (live_in rows)))
 
 -- whether any is due
 any_at : (limit : ℕ) (rows : List SessionRow) (p : ℕ) → limit < no_stamp → stamp_in (slice_get rows p) ≤ limit
-    → list_any (λ s. nat_le s.last limit) (live_of rows) ≡ true
+    → list_any (λ s. nat_le s.last limit) (live_in rows) ≡ true
 any_at limit [] p low le = absurd (omega arith)
 any_at limit (r ∷ rows) zero low le = here r.kept le where
   here : (o : Option Seat) → unwrap_or (option_map (λ (s : Seat). s.session.last) o) no_stamp ≤ limit
@@ -192,41 +192,41 @@ any_at limit (r ∷ rows) zero low le = here r.kept le where
   here None le = absurd (omega arith)
   here (Some s) le = let e : nat_le s.session.last limit ≡ true = grind (arith, nat_tests) in rw e refl
 any_at limit (r ∷ rows) (suc p) low le = past r.kept (any_at limit rows p low le) where
-  past : (o : Option Seat) → list_any (λ s. nat_le s.last limit) (live_of rows) ≡ true
+  past : (o : Option Seat) → list_any (λ s. nat_le s.last limit) (live_in rows) ≡ true
       → list_any (λ s. nat_le s.last limit) (map (λ (s : Seat). s.session) (option_to_list o ++ seats_of rows)) ≡ true
   past None e = e
   past (Some s) e = elim (cases_Bool (nat_le s.session.last limit)) [ inl hit ↦ rw hit refl | inr miss ↦ rw (miss, e) refl ]
 
 none_any : (limit : ℕ) (rows : List SessionRow) → ((p : ℕ) → p < length rows → limit < stamp_in (slice_get rows p))
-    → list_any (λ s. nat_le s.last limit) (live_of rows) ≡ false
+    → list_any (λ s. nat_le s.last limit) (live_in rows) ≡ false
 none_any limit [] f = refl
 none_any limit (r ∷ rows) f = one r.kept (f 0 (omega arith)) (none_any limit rows (λ p less. f (suc p) (omega arith))) where
   one : (o : Option Seat) → limit < unwrap_or (option_map (λ (s : Seat). s.session.last) o) no_stamp
-      → list_any (λ s. nat_le s.last limit) (live_of rows) ≡ false
+      → list_any (λ s. nat_le s.last limit) (live_in rows) ≡ false
       → list_any (λ s. nat_le s.last limit) (map (λ (s : Seat). s.session) (option_to_list o ++ seats_of rows)) ≡ false
   one None low e = e
   one (Some s) low e = let k : nat_le s.session.last limit ≡ false = grind (arith, nat_tests) in rw (k, e) refl
 
 pub root_any : (width : ℕ) (tree : List ℕ) (rows : List SessionRow) (moment ttl limit : ℕ) → limit < no_stamp → limit + ttl ≡ moment
     → IsTree width tree → 1 ≤ width → length rows ≤ width → IsStamped rows width tree
-    → nat_le (node_value tree 1) limit ≡ list_any (is_expired moment ttl) (live_of rows)
+    → nat_le (node_value tree 1) limit ≡ list_any (is_expired moment ttl) (live_in rows)
 root_any width tree rows moment ttl limit low e t some fits stamped =
     elim (cases_lt limit (node_value tree 1)) [
       | inl above ↦
           let k : nat_le (node_value tree 1) limit ≡ false = grind (arith, nat_tests) in
-          k ∙ sym (any_by moment ttl limit e (live_of rows) ∙ none_any limit rows (λ p less.
+          k ∙ sym (any_by moment ttl limit e (live_in rows) ∙ none_any limit rows (λ p less.
           let least = root_least width tree t (width + p) (omega arith) (omega arith) in
           let is = stamped p (omega arith) in omega arith))
       | inr within ↦
           let k : nat_le (node_value tree 1) limit ≡ true = grind (arith, nat_tests) in
           let there = root_there width tree t some in
-          k ∙ sym (any_by moment ttl limit e (live_of rows) ∙ any_at limit rows there.0 low
+          k ∙ sym (any_by moment ttl limit e (live_in rows) ∙ any_at limit rows there.0 low
           (let is = stamped there.0 there.1 in let at_root = there.2 in omega arith))
     ]
 
 -- where there is no row, none is expired
-pub no_rows : (rows : List SessionRow) (moment ttl : ℕ) → length rows ≤ 0 → (list_any (is_expired moment ttl) (live_of rows) ≡ false)
-    × (expired_serials moment ttl (live_of rows) ≡ [])
+pub no_rows : (rows : List SessionRow) (moment ttl : ℕ) → length rows ≤ 0 → (list_any (is_expired moment ttl) (live_in rows) ≡ false)
+    × (expired_serials moment ttl (live_in rows) ≡ [])
 no_rows [] moment ttl none = (refl, refl)
 no_rows (r ∷ rows) moment ttl none = absurd (omega arith)
 
@@ -268,7 +268,7 @@ is_power width (inr p) some = p
 
 -- the same, in the words of the code
 pub any_is : (width : ℕ) (tree : List ℕ) (rows : List SessionRow) (moment ttl limit : ℕ) → limit < no_stamp → limit + ttl ≡ moment
-    → AreStamps rows width tree → is_any_due width tree limit ≡ list_any (is_expired moment ttl) (live_of rows)
+    → AreStamps rows width tree → is_any_due width tree limit ≡ list_any (is_expired moment ttl) (live_in rows)
 any_is width tree rows moment ttl limit low e m =
     elim (cases_lt 0 width) [
       | inl some ↦
@@ -282,7 +282,7 @@ any_is width tree rows moment ttl limit low e m =
 
 pub due_is : (width : ℕ) (tree : List ℕ) (rows : List SessionRow) (moment ttl limit : ℕ) → limit < no_stamp → limit + ttl ≡ moment
     → Own rows
-    → AreStamps rows width tree → due_rows rows width tree limit ≡ expired_serials moment ttl (live_of rows)
+    → AreStamps rows width tree → due_rows rows width tree limit ≡ expired_serials moment ttl (live_in rows)
 due_is width tree rows moment ttl limit low e own m = due_serials width tree rows moment ttl limit low e own m.within m.stamped
 
 pub none_due_yet : (moment ttl : ℕ) → moment < ttl → (sessions : List Session)

@@ -17,8 +17,8 @@ abbrev pub seats_of : List SessionRow → List Seat
 seats_of rows = flat_map (λ (r : SessionRow). option_to_list r.kept) rows
 
 -- the live sessions of rows
-abbrev pub live_of : List SessionRow → List Session
-live_of rows = map (λ (s : Seat). s.session) (seats_of rows)
+abbrev pub live_in : List SessionRow → List Session
+live_in rows = map (λ (s : Seat). s.session) (seats_of rows)
 
 -- for how many more items the queue of each has room
 abbrev pub spare_in : List SessionRow → List (ℕ × ℕ)
@@ -49,7 +49,7 @@ stamp_of row = unwrap_or (option_map (λ (s : Seat). s.session.last) row.kept) n
 abbrev pub IsRowOf : ℕ → List SessionRow → Option ℕ → Type 0
 IsRowOf serial rows place =
     MatchOption place
-    (session_with_serial serial (live_of rows) ≡ None)
+    (session_with_serial serial (live_in rows) ≡ None)
     (λ i. (i < length rows) × ((seat : Seat) × (slice_get rows i ≡ Some (record { serial = serial; kept = Some seat }))))
 
 -- the seat is that of a row with that serial
@@ -68,15 +68,15 @@ pub record AreRows (counter : ℕ) (rows : List SessionRow) : Type 0 where
   pub own : AreOwn rows
   pub counted : AllByRecursion (λ (r : SessionRow). r.serial ≤ counter) rows
   -- a client has one session
-  pub apart : IsDistinct is_same_text (map (λ (s : Session). s.client) (live_of rows))
-  pub few : length (live_of rows) ≤ most_sessions
+  pub apart : IsDistinct is_same_text (map (λ (s : Session). s.client) (live_in rows))
+  pub few : length (live_in rows) ≤ most_sessions
 
 -- what holds of the holders: they are in order, and each leads to its client's session
 pub record AreHolders (rows : List SessionRow) (holders : List Holder) : Type 0 where
   pub ordered : IsStrictlySortedBy client_order holders
   pub indexed : (client : List ℕ) → option_map (λ (h : Holder). h.serial) (holder_of client holders) ≡ option_map
-      (λ (s : Session). s.serial) (session_of_client client (live_of rows))
-  pub counts : length holders ≡ length (live_of rows)
+      (λ (s : Session). s.serial) (session_of_client client (live_in rows))
+  pub counts : length holders ≡ length (live_in rows)
 
 -- each row has its stamp, and no other place has one
 abbrev pub IsStamped : List SessionRow → ℕ → List ℕ → Type 0
@@ -126,4 +126,4 @@ pub record CanWiden (rows : List SessionRow) (width live : ℕ) : Type 0 where
   pub few : width < width_bound
   pub within : live ≤ width
   pub most : live ≤ most_sessions
-  pub counts : live ≡ length (live_of rows)
+  pub counts : live ≡ length (live_in rows)

@@ -2,7 +2,7 @@
 //! other moves.
 ghost use Rattle.std.specs.Prelude.{◌≡◌, ℕ, ◌+◌, ◌-◌, ◌*◌, ◌<◌, ◌≤◌, IfOk, MatchOption, None, OnErr, OnOk, Some, filter, is_some, length, map, slice_get, slice_set, vec_capacity, vec_len};
 ghost use Rattle.std.specs.List.{All};
-ghost use Rattle.ifmap_session.specs.Rows.{AreOwn, AreStamps, CanWiden, ChangesSeat, IsRowOf, IsSeatOf, IsStamped, IsTaken, Rewrites, due_rows, live_of, serial_at, stamp_of};
+ghost use Rattle.ifmap_session.specs.Rows.{AreOwn, AreStamps, CanWiden, ChangesSeat, IsRowOf, IsSeatOf, IsStamped, IsTaken, Rewrites, due_rows, live_in, serial_at, stamp_of};
 ghost use Rattle.ifmap_session.specs.Seats.{Seat};
 ghost use Rattle.ifmap_session.specs.Sessions.{IsLive, session_with_serial, with_error, with_item, with_last, without_items, without_name};
 ghost use Rattle.ifmap_session.specs.Stamps.{IsTree, node_value, no_stamp};
@@ -37,7 +37,7 @@ pub fn place_of_serial(rows: &[SessionRow], serial: u64) -> Option<usize>
 /// Where the live session with that serial stands.
 pub fn place_in(rows: &[SessionRow], serial: u64) -> usize
     requires own { AreOwn rows.now }
-    requires live { IsLive serial (live_of rows.now) }
+    requires live { IsLive serial (live_in rows.now) }
     ensures { (seat : Seat) × (slice_get rows.now result
         ≡ Some (record { serial = serial; kept = Some seat })) }
 {
@@ -47,7 +47,7 @@ pub fn place_in(rows: &[SessionRow], serial: u64) -> usize
 /// The session with that serial.
 pub fn find_live(rows: &[SessionRow], serial: u64) -> Option<&LiveSession>
     requires { AreOwn rows.now }
-    ensures { MatchOption result (session_with_serial serial (live_of rows.now) ≡ None)
+    ensures { MatchOption result (session_with_serial serial (live_in rows.now) ≡ None)
         (λ kept. IsSeatOf serial rows.now kept.now) }
 {
     let place = place_of_serial(rows, serial)?;

@@ -43,7 +43,7 @@ impl Model for Sessions {
     ghost use Rattle.std.specs.Prelude.{◌-◌, min, vec_capacity, vec_len};
     ghost use Rattle.std.specs.Coded.{codes};
     ghost use Rattle.ifmap_search.specs.contracts.results.PollItem as the_poll_item;
-    ghost use Rattle.ifmap_session.specs.Rows.{AreTied, live_of, spare_in};
+    ghost use Rattle.ifmap_session.specs.Rows.{AreTied, live_in, spare_in};
     ghost use Rattle.ifmap_session.specs.Sessions.{SessionTable};
 
     ghost Value = { SessionTable };
@@ -52,7 +52,7 @@ impl Model for Sessions {
 
     ghost view = { λ s. record {
       counter = s.counter;
-      live = live_of s.rows.items;
+      live = live_in s.rows.items;
       spare = spare_in s.rows.items;
       room = min (min (vec_capacity s.rows) s.width - vec_len s.rows)
           (vec_capacity s.holders - vec_len s.holders);

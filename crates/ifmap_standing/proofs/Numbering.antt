@@ -22,7 +22,7 @@ use Rattle.ifmap_view.specs.declared.views.LinkSeen.{LinkSeen}
 use Rattle.ifmap_view.specs.Rows.{stored_linked}
 use Rattle.ifmap_view.specs.Views.{IsView, others}
 use Rattle.ifmap_delta.specs.ifmap_region.DepthLaws.{depths_same, walk_over}
-use Rattle.ifmap_delta.specs.ifmap_fresh.laws.JoiningLaws.{some_there}
+use Rattle.ifmap_delta.specs.ifmap_fresh.laws.JoiningLaws.{some_if_met}
 
 -- what is stored on a link is stored between two identifiers
 named : (rows : List Attachment) (x y : Option Identifier) → stored_linked x y rows ≢ []
@@ -49,7 +49,7 @@ module _ (g : ViewSeen) (s : Search) where
 
   matches_linked : IsView g.rows g.id_at g.links → (v w : ℕ) → Matches v w → Links g s v w
   matches_linked is v w m =
-      let c = is.each v w (some_there s.match_links (stored_linked (g.id_at v) (g.id_at w) g.rows) m)
+      let c = is.each v w (some_if_met s.match_links (stored_linked (g.id_at v) (g.id_at w) g.rows) m)
       in let links = g.links v
       in let within : c.0 < length links = subst (λ n. c.0 < n) (length-map links (λ l. l.other)) c.1
       in let seen : LinkSeen = get_or links c.0 (record { other = w; at = 0 })
@@ -80,7 +80,7 @@ module _ (one other : ViewSeen) (s : Search) (was : IsView one.rows one.id_at on
       × (other.id_at w ≡ Some b)
   there v w l =
       let m = linked_matches one s v w l
-      in let n = some_there s.match_links (stored_linked (one.id_at v) (one.id_at w) one.rows) m
+      in let n = some_if_met s.match_links (stored_linked (one.id_at v) (one.id_at w) one.rows) m
       in let a = named one.rows (one.id_at v) (one.id_at w) n
       in let c : Contains (others (other.links v)) w = subst (λ ls. Contains (others ls) w) (sym (links v)) (was.each v w n)
       in let b = named other.rows (other.id_at v) (other.id_at w) (is.only v w c)

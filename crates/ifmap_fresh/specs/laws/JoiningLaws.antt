@@ -37,8 +37,8 @@ pub none_to_itself : (a : Option Identifier) (rows : List Attachment) → stored
 none_to_itself None rows = refl
 none_to_itself (Some a) rows = ap (λ i. stored_where i rows) (pair_of_one a)
 
-pub some_there : (filter : Option Filter) (xs : List Stored) → one_meets filter xs ≡ true → xs ≢ []
-some_there filter xs e n = let p : one_meets filter [] ≡ true = subst (λ ys. one_meets filter ys ≡ true) n e in cc
+pub some_if_met : (filter : Option Filter) (xs : List Stored) → one_meets filter xs ≡ true → xs ≢ []
+some_if_met filter xs e n = let p : one_meets filter [] ≡ true = subst (λ ys. one_meets filter ys ≡ true) n e in cc
 
 -- where something is stored on the pair of two identifiers, the second stands in an item
 pub stands_in : BytesTellIdentifiers → (rows : List Attachment) → AllByRecursion (λ r. IsCanonItem r.item) rows → (a b : Identifier) →
@@ -90,7 +90,7 @@ module _ (rows : List Attachment) (id_at : ℕ → Option Identifier) (links : �
   module _ (is : IsView rows id_at links) where
     pub matches_linked : (v w : ℕ) → Matches v w → Linked count link v w
     matches_linked v w m =
-        let c = is.each v w (some_there filter (stored_linked (id_at v) (id_at w) rows) m)
+        let c = is.each v w (some_if_met filter (stored_linked (id_at v) (id_at w) rows) m)
         in let within : c.0 < length (links v) = subst (λ n. c.0 < n) (length-map (links v) (λ l. l.other)) c.1
         in let seen : LinkSeen = get_or (links v) c.0 (record { other = w; at = 0 })
         in let other : seen.other ≡ w = sym (get_or-map (λ l. l.other) (links v) c.0 (record { other = w; at = 0 }) w within) ∙ c.2
@@ -107,4 +107,4 @@ module _ (rows : List Attachment) (id_at : ℕ → Option Identifier) (links : �
         matches_linked w v (subst (λ xs. one_meets filter xs ≡ true) (linked_turned (id_at v) (id_at w) rows) (linked_matches v w l))
 
     pub no_loop : (v : ℕ) → Linked count link v v → ⊥
-    no_loop v l = some_there filter (stored_linked (id_at v) (id_at v) rows) (linked_matches v v l) (none_to_itself (id_at v) rows)
+    no_loop v l = some_if_met filter (stored_linked (id_at v) (id_at v) rows) (linked_matches v v l) (none_to_itself (id_at v) rows)

@@ -50,15 +50,15 @@ whole_after before after changes fits is w =
         (all_filter IsWhole _ (stored_on x before) (whole_on before w x))
 
 -- the tests of two items that tie
-pub same_test : (i x y : Item) → item_order i x ≡ Equal → same_item y i ≡ same_item y x
-same_test i x y e = sym (ties i y) ∙ ap is_eq (items_total.congr i x y e) ∙ ties x y
+pub tied_alike : (i x y : Item) → item_order i x ≡ Equal → same_item y i ≡ same_item y x
+tied_alike i x y e = sym (ties i y) ∙ ap is_eq (items_total.congr i x y e) ∙ ties x y
 
 -- what is stored on what ties is the same
 pub stored_tied : (i x : Item) (rows : List Attachment) → item_order i x ≡ Equal → stored_on i rows ≡ stored_on x rows
 stored_tied i x [] e = refl
 stored_tied i x (r ∷ rs) e =
     ap (λ b. map (λ (a : Attachment). a.stored) (cond b (r ∷ filter (λ a. same_item a.item i) rs) (filter (λ a. same_item a.item i) rs)))
-    (same_test i x r.item e)
+    (tied_alike i x r.item e)
     ∙ by (same_item r.item x) (stored_tied i x rs e)
   where
     by : (b : Bool) → stored_on i rs ≡ stored_on x rs

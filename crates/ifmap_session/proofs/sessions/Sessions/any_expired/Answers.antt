@@ -1,6 +1,6 @@
 use Rattle.std.proofs.Common.{sym, ◌∙◌, ap, ◌<◌, inl, inr, arith}
 use Rattle.std.proofs.lemmas.Bool.{cases_lt}
-use Rattle.ifmap_session.specs.Rows.{live_of}
+use Rattle.ifmap_session.specs.Rows.{live_in}
 use Rattle.ifmap_session.specs.Stamps.{is_any_due}
 use Rattle.ifmap_session.proofs.StampLaws.{any_is, none_due_yet}
 use Rattle.ifmap_session.proofs.sessions.Sessions.any_expired.Goals as goal
@@ -22,4 +22,4 @@ returns-in-None c =
       | inl less ↦ less
       | inr more ↦ absurd (none (omega arith))
     ] in
-    rw (← c.self.view_is) (sym (none_due_yet c.args.moment c.args.ttl early (live_of c.self.inside.rows.items)).0)
+    rw (← c.self.view_is) (sym (none_due_yet c.args.moment c.args.ttl early (live_in c.self.inside.rows.items)).0)

@@ -1,7 +1,7 @@
 use Rattle.std.proofs.Common.{◌∙◌, sym, ap, subst, None}
 use Rattle.ifmap_session.specs.Places.{IsPlaceOf}
 use Rattle.ifmap_session.specs.declared.holders.Holder.{Holder}
-use Rattle.ifmap_session.specs.Rows.{live_of}
+use Rattle.ifmap_session.specs.Rows.{live_in}
 use Rattle.ifmap_session.specs.Seats.{Seat}
 use Rattle.ifmap_session.specs.Sessions.{is_same_text, session_of_client}
 use Rattle.ifmap_session.proofs.KeptLaws.{moments_ended, place_within}
@@ -54,11 +54,11 @@ returns-clause-gone c = λ client held.
     let got = rw c.deref.ensures.value at c.place_in-place.ensures in
     let done = c.end_at-ended.ensures.rows c.args.serial got.0 got.1 in
     let own = c.self.invariant.sessions.own in
-    let live = ap live_of done.1 ∙ ended_in_row c.args.serial c.self.inside.rows.items c.place_in-place.result got.0
+    let live = ap live_in done.1 ∙ ended_in_row c.args.serial c.self.inside.rows.items c.place_in-place.result got.0
     own.rising own.own got.1
-    ∙ sym (without_one c.args.serial (live_of c.self.inside.rows.items)) in
+    ∙ sym (without_one c.args.serial (live_in c.self.inside.rows.items)) in
     ap (session_of_client client) live
-    ∙ client_gone (live_of c.self.inside.rows.items) c.args.serial got.0.session client
+    ∙ client_gone (live_in c.self.inside.rows.items) c.args.serial got.0.session client
     (live_up c.self.inside.rows.items own.rising own.own) c.self.invariant.sessions.apart
     (found_in_row c.args.serial c.self.inside.rows.items c.place_in-place.result got.0 own.rising own.own got.1)
     (rw (← c.self.view_is) at held)

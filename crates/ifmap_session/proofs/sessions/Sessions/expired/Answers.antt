@@ -1,7 +1,7 @@
 use Rattle.std.proofs.Common.{◌≡◌, sym, ◌∙◌, ◌<◌, inl, inr, arith}
 use Rattle.std.proofs.lemmas.Bool.{cases_lt}
 use Rattle.std.proofs.lemmas.Result.{IfOk-weaker}
-use Rattle.ifmap_session.specs.Rows.{due_rows, live_of}
+use Rattle.ifmap_session.specs.Rows.{due_rows, live_in}
 use Rattle.ifmap_session.specs.Sessions.{expired_serials}
 use Rattle.ifmap_session.proofs.StampLaws.{due_is, none_due_yet}
 use Rattle.ifmap_session.proofs.sessions.Sessions.expired.Goals as goal
@@ -14,7 +14,7 @@ returns-in-Some c =
     let due = rw (c.deref.ensures.value, c.deref-in-Some.ensures.value) at c.due_serials.ensures in
     rw (← c.self.view_is) (IfOk-weaker c.due_serials.result
     (λ serials. serials ≡ due_rows c.self.inside.rows.items c.self.inside.width c.self.inside.stamps.items c.in-Some.limit)
-    (λ serials. serials ≡ expired_serials c.args.moment c.args.ttl (live_of c.self.inside.rows.items))
+    (λ serials. serials ≡ expired_serials c.args.moment c.args.ttl (live_in c.self.inside.rows.items))
     (λ serials e. e ∙ due_is c.self.inside.width c.self.inside.stamps.items c.self.inside.rows.items c.args.moment c.args.ttl
     c.in-Some.limit (omega arith) (omega arith) c.self.invariant.sessions.own.own c.self.invariant.moments) due)
 
@@ -26,4 +26,4 @@ returns-in-None c =
       | inl less ↦ less
       | inr more ↦ absurd (none (omega arith))
     ] in
-    c.new.ensures.items ∙ rw (← c.self.view_is) (sym (none_due_yet c.args.moment c.args.ttl early (live_of c.self.inside.rows.items)).1)
+    c.new.ensures.items ∙ rw (← c.self.view_is) (sym (none_due_yet c.args.moment c.args.ttl early (live_in c.self.inside.rows.items)).1)

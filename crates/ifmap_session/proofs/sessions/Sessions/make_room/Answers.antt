@@ -1,5 +1,5 @@
 use Rattle.std.proofs.Common.{refl, ◌∙◌, ap, map, arith}
-use Rattle.ifmap_session.specs.Rows.{live_of, spare_in}
+use Rattle.ifmap_session.specs.Rows.{live_in, spare_in}
 use Rattle.ifmap_session.specs.Seats.{Seat}
 use Rattle.ifmap_session.proofs.RowLaws.{live_few, seats_filter}
 use Rattle.ifmap_session.proofs.SessionLaws.{holders_filled, live_filter, rows_filled}
@@ -33,7 +33,7 @@ pub returns-clause-same : goal.returns-clause-same
 returns-clause-same c =
     let rows = c.reserve_one-2.ensures.rows ∙ c.in_ok-wide.ensures.items in
     rw (← c.self.view_is) (record {
-      live = ap live_of rows ∙ live_filter c.self.inside.rows.items;
+      live = ap live_in rows ∙ live_filter c.self.inside.rows.items;
       counter = refl;
       spare = ap spare_in rows ∙ ap (map (λ (s : Seat). (s.session.serial, s.spare))) (seats_filter c.self.inside.rows.items);
       room =

@@ -2,7 +2,7 @@ use Rattle.std.proofs.Common.{◌≡◌, None, ◌∙◌, sym, ap, subst, ◌+�
 use Rattle.std.specs.List.{insert}
 use Rattle.std.specs.Result.{IfErr}
 use Rattle.ifmap_session.specs.declared.holders.Holder.{Holder}
-use Rattle.ifmap_session.specs.Rows.{live_of}
+use Rattle.ifmap_session.specs.Rows.{live_in}
 use Rattle.ifmap_session.specs.Places.{IsPlaceFor, IsPlaceOf}
 use Rattle.ifmap_session.specs.SessionIds.{session_id}
 use Rattle.ifmap_session.specs.Sessions.{Session, is_same_text, session_of_client}
@@ -27,7 +27,7 @@ invariant_of-self c =
     let client = ap (λ (s : Session). s.client) c.new-kept.ensures in
     let serial = ap (λ (s : Session). s.serial) c.new-kept.ensures ∙ same in
     let none = rw (← c.self.view_is, ← c.opening.view_is) at c.requires.none in
-    let none_of_its : session_of_client y.session.client (live_of c.self.inside.rows.items) ≡ None = rw client none in
+    let none_of_its : session_of_client y.session.client (live_in c.self.inside.rows.items) ≡ None = rw client none in
     let small = rw (← c.self.view_is) at c.requires.counter in
     let few = rw (← c.self.view_is) at c.requires.few in
     let room = rw (← c.self.view_is) at c.requires.room in

@@ -1,6 +1,6 @@
 use Rattle.std.proofs.Common.{◌≡◌, sym, ◌∙◌, subst, false, Some}
 use Rattle.std.proofs.lemmas.Bool.{both_ways, false_from_ne_true}
-use Rattle.ifmap_session.specs.Rows.{live_of}
+use Rattle.ifmap_session.specs.Rows.{live_in}
 use Rattle.ifmap_session.specs.Sessions.{is_same_text, session_with_serial}
 use Rattle.ifmap_session.proofs.RowLaws.{found_in_row}
 use Rattle.ifmap_session.specs.laws.TextLaws.{text_is, text_same}
@@ -23,7 +23,7 @@ returns-in_err-kept-clause-none c =
 pub returns-then-equals-clause-some : goal.returns-then-equals-clause-some
 returns-then-equals-clause-some c =
     let k = c.self.invariant.sessions in
-    let live = live_of c.self.inside.rows.items in
+    let live = live_in c.self.inside.rows.items in
     let got = rw (c.in_ok-kept.was, c.deref.ensures.value) at c.find_live.ensures in
     let seat = c.in_ok-kept.kept.now in
     let at = one_in_row _ _ c.args.id.now c.serial_of.result c.self.invariant.sessions

@@ -1,6 +1,6 @@
 use Rattle.std.proofs.Common.{refl, sym, ◌∙◌, subst, ◌≤◌, arith}
 use Rattle.std.specs.Result.{OnOk}
-use Rattle.ifmap_session.specs.Rows.{live_of}
+use Rattle.ifmap_session.specs.Rows.{live_in}
 use Rattle.ifmap_session.proofs.KeptLaws.{Rewritten, change_none, kept_queue, queue_stays, rewritten}
 use Rattle.ifmap_session.proofs.sessions.Sessions.queue_room.Goals.{After-reserve_at}
 use Rattle.ifmap_session.proofs.sessions.Sessions.queue_room.Goals as goal
@@ -29,7 +29,7 @@ pub returns-clause-changes : goal.returns-clause-changes
 returns-clause-changes c =
     let r = made_room (goal.at.returns-clause-changes c).After-reserve_at in
     rw (← c.self.view_is) (record {
-      live = r.live ∙ change_none c.args.serial (live_of c.self.inside.rows.items);
+      live = r.live ∙ change_none c.args.serial (live_in c.self.inside.rows.items);
       counter = refl;
       others = r.others;
       room = let l = c.reserve_at.ensures.len in let k = c.reserve_at.ensures.capacity in omega arith;
