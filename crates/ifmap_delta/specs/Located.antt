@@ -6,6 +6,8 @@ use Rattle.ifmap_ident.specs.declared.items.Item.TheVariants.{One, Pair}
 use Rattle.ifmap_plans.specs.declared.plans.ItemChange.{ItemChange}
 use Rattle.ifmap_plans.specs.declared.plans.Note.{Note}
 use Rattle.ifmap_view.specs.Rows.{stored_on}
+use Rattle.ifmap_view.specs.Views.{IsView}
+use Rattle.ifmap_delta.specs.Changes.{ShowsAfter}
 use Rattle.ifmap_delta.specs.declared.locating.Located.{Located}
 use Rattle.ifmap_delta.specs.declared.locating.LocatedChange.{LocatedChange}
 use Rattle.ifmap_delta.specs.declared.locating.LocatedPlan.{LocatedPlan}
@@ -50,3 +52,10 @@ AreNotesLocated g = AreEach (λ n. IsLocated g n.item)
 pub record IsLocatedPlan (old new : ViewSeen) (p : LocatedPlan) : Type 0 where
   pub changes : AreLocated old new p.plan.now.changes p.changes.items
   pub notes : AreNotesLocated new p.plan.now.notes p.notes.items
+
+-- a draft beside the graph, each a view, shows it after the changes of a plan, whose items are located in both
+pub record IsPlannedDraft (old new : ViewSeen) (p : LocatedPlan) : Type 0 where
+  pub graph : IsView old.rows old.id_at old.links
+  pub draft : IsView new.rows new.id_at new.links
+  pub change : ShowsAfter old new p.plan.now.changes
+  pub located : AreLocated old new p.plan.now.changes p.changes.items

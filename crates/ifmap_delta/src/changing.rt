@@ -2,13 +2,12 @@
 ghost use Rattle.std.specs.Prelude.{◌≡◌, false, IfOk};
 ghost use Rattle.std.specs.List.{list_any};
 ghost use Rattle.ifmap_delta.specs.Bounds.{IsNear, IsWithinBound, one_and_links};
-ghost use Rattle.ifmap_delta.specs.Changes.{ShowsAfter, IsMovedBetween};
+ghost use Rattle.ifmap_delta.specs.Changes.{IsMovedBetween};
 ghost use Rattle.ifmap_delta.specs.Flipped.{is_near};
-ghost use Rattle.ifmap_delta.specs.Located.{AreLocated};
+ghost use Rattle.ifmap_delta.specs.Located.{IsPlannedDraft};
 ghost use Rattle.ifmap_delta.specs.Sights.{AreMarks, HasMarks, IsUpToDate, view_seen};
 ghost use Rattle.ifmap_region.specs.Bounds.{IsWithin};
 ghost use Rattle.ifmap_region.specs.Marks.{mark_of, mark_over};
-ghost use Rattle.ifmap_view.specs.Views.{IsView};
 
 use crate::differing::{differences_on, size_after};
 use crate::flips::flips_of;
@@ -45,14 +44,9 @@ pub fn change<'a, G: View, D: View, L: Ledger>(
     located: &LocatedPlan<'_>,
     steps: &mut Steps<L>,
 ) -> Result<Moved, NoMemory>
-    requires graph { IsView (G.rows graph.now) (G.id_at graph.now) (G.links graph.now) }
-    requires draft { IsView (D.rows draft.now) (D.id_at draft.now) (D.links draft.now) }
+    requires planned { IsPlannedDraft (view_seen G.rows G.id_at G.links graph.now)
+        (view_seen D.rows D.id_at D.links draft.now) located.now }
     requires kept { IsUpToDate (view_seen G.rows G.id_at G.links graph.now) subscription.now }
-    requires change { ShowsAfter (view_seen G.rows G.id_at G.links graph.now)
-        (view_seen D.rows D.id_at D.links draft.now) located.now.plan.now.changes }
-    requires located { AreLocated (view_seen G.rows G.id_at G.links graph.now)
-        (view_seen D.rows D.id_at D.links draft.now) located.now.plan.now.changes
-        located.now.changes.items }
     ensures moved { IfOk result (IsMovedBetween (view_seen G.rows G.id_at G.links graph.now)
         (view_seen D.rows D.id_at D.links draft.now) subscription.now) }
 
@@ -106,14 +100,9 @@ fn move_nothing<'a, G: View, D: View, L: Ledger>(
     located: &LocatedPlan<'_>,
     steps: &mut Steps<L>,
 ) -> Result<Moved, NoMemory>
-    requires graph { IsView (G.rows graph.now) (G.id_at graph.now) (G.links graph.now) }
-    requires draft { IsView (D.rows draft.now) (D.id_at draft.now) (D.links draft.now) }
+    requires planned { IsPlannedDraft (view_seen G.rows G.id_at G.links graph.now)
+        (view_seen D.rows D.id_at D.links draft.now) located.now }
     requires kept { IsUpToDate (view_seen G.rows G.id_at G.links graph.now) subscription.now }
-    requires change { ShowsAfter (view_seen G.rows G.id_at G.links graph.now)
-        (view_seen D.rows D.id_at D.links draft.now) located.now.plan.now.changes }
-    requires located { AreLocated (view_seen G.rows G.id_at G.links graph.now)
-        (view_seen D.rows D.id_at D.links draft.now) located.now.plan.now.changes
-        located.now.changes.items }
     requires far { list_any (is_near (mark_of subscription.now.region.marks.entries))
         located.now.changes.items ≡ false }
     ensures moved { IfOk result (IsMovedBetween (view_seen G.rows G.id_at G.links graph.now)
@@ -148,14 +137,9 @@ fn patch_for<'a, G: View, D: View, L: Ledger>(
     located: &LocatedPlan<'_>,
     steps: &mut Steps<L>,
 ) -> Result<Patch, NoMemory>
-    requires graph { IsView (G.rows graph.now) (G.id_at graph.now) (G.links graph.now) }
-    requires draft { IsView (D.rows draft.now) (D.id_at draft.now) (D.links draft.now) }
+    requires planned { IsPlannedDraft (view_seen G.rows G.id_at G.links graph.now)
+        (view_seen D.rows D.id_at D.links draft.now) located.now }
     requires marks { HasMarks (view_seen G.rows G.id_at G.links graph.now) subscription.now }
-    requires change { ShowsAfter (view_seen G.rows G.id_at G.links graph.now)
-        (view_seen D.rows D.id_at D.links draft.now) located.now.plan.now.changes }
-    requires located { AreLocated (view_seen G.rows G.id_at G.links graph.now)
-        (view_seen D.rows D.id_at D.links draft.now) located.now.plan.now.changes
-        located.now.changes.items }
     ensures marks { IfOk result (λ patch. AreMarks (view_seen D.rows D.id_at D.links draft.now)
         subscription.now.search subscription.now.region.start subscription.now.region.max_depth
         (mark_over patch (mark_of subscription.now.region.marks.entries))) }

@@ -27,8 +27,8 @@ looked g c =
     in let new = view_seen g.D.View.rows g.D.View.id_at g.D.View.links c.args.draft.now
     in let sub = c.args.subscription.now
     in let mark = mark_of sub.region.marks.entries
-    in change_steps c.bytes_tell_identifiers_apart.ensures old new sub.search c.requires.graph c.requires.draft
-    c.args.located.now.plan.now.changes c.requires.change sub.region.start sub.region.max_depth mark c.requires.kept.marks
+    in change_steps c.bytes_tell_identifiers_apart.ensures old new sub.search c.requires.planned.graph c.requires.planned.draft
+    c.args.located.now.plan.now.changes c.requires.planned.change sub.region.start sub.region.max_depth mark c.requires.kept.marks
     (mark_over c.in_ok-patch.patch mark) c.in_ok-patch.ensures.marks c.args.steps.now c.patch_for.new.steps c.touched_items.new.steps
     (numbers_of c.in_ok-patch.patch) c.touched_items.ensures.apart c.patch_for.ensures.steps c.touched_items.ensures.steps
 
@@ -37,8 +37,8 @@ returns-in_err-patch-clause-steps g c =
     let old = view_seen g.G.View.rows g.G.View.id_at g.G.View.links c.args.graph.now
     in let new = view_seen g.D.View.rows g.D.View.id_at g.D.View.links c.args.draft.now
     in let sub = c.args.subscription.now
-    in repair_steps c.bytes_tell_identifiers_apart.ensures old new sub.search c.requires.graph c.requires.draft
-    c.args.located.now.plan.now.changes c.requires.change sub.region.start sub.region.max_depth (mark_of sub.region.marks.entries)
+    in repair_steps c.bytes_tell_identifiers_apart.ensures old new sub.search c.requires.planned.graph c.requires.planned.draft
+    c.args.located.now.plan.now.changes c.requires.planned.change sub.region.start sub.region.max_depth (mark_of sub.region.marks.entries)
     c.requires.kept.marks c.args.steps.now c.patch_for.new.steps c.patch_for.ensures.steps
 
 pub touched_items-requires-clause-before : goal.touched_items-requires-clause-before
@@ -54,7 +54,7 @@ touched_items-requires-clause-change g c =
     let old = view_seen g.G.View.rows g.G.View.id_at g.G.View.links c.args.graph.now
     in let new = view_seen g.D.View.rows g.D.View.id_at g.D.View.links c.args.draft.now
     in let at : c.deref-2.result.now ≡ c.args.located.now.plan.now.changes = search rules
-    in subst (ShowsAfter old new) (sym at) c.requires.change
+    in subst (ShowsAfter old new) (sym at) c.requires.planned.change
 
 pub touched_items-requires-clause-located : goal.touched_items-requires-clause-located
 touched_items-requires-clause-located g c =
@@ -63,7 +63,7 @@ touched_items-requires-clause-located g c =
     in let at : c.deref-2.result.now ≡ c.args.located.now.plan.now.changes = search rules
     in let on : c.deref-3.result.now ≡ c.args.located.now.changes.items = search rules
     in subst (λ cs. AreLocated old new cs c.deref-3.result.now) (sym at)
-    (subst (λ ls. AreLocated old new c.args.located.now.plan.now.changes ls) (sym on) c.requires.located)
+    (subst (λ ls. AreLocated old new c.args.located.now.plan.now.changes ls) (sym on) c.requires.planned.located)
 
 pub differences_on-requires-clause-before : goal.differences_on-requires-clause-before
 differences_on-requires-clause-before g c =
@@ -81,7 +81,7 @@ differences_on-requires-clause-change g c =
     let old = view_seen g.G.View.rows g.G.View.id_at g.G.View.links c.args.graph.now
     in let new = view_seen g.D.View.rows g.D.View.id_at g.D.View.links c.args.draft.now
     in let at : c.deref-4.result.now ≡ c.args.located.now.plan.now.changes = search rules
-    in subst (λ cs. IsAfter cs old.rows new.rows) (sym at) c.requires.change.after
+    in subst (λ cs. IsAfter cs old.rows new.rows) (sym at) c.requires.planned.change.after
 
 pub returns-in_err-items-clause-steps : goal.returns-in_err-items-clause-steps
 returns-in_err-items-clause-steps g c = looked g (goal.at.returns-in_err-items-clause-steps g c).After-touched_items
@@ -102,8 +102,8 @@ returns-clause-moved g c =
     in let sub = c.args.subscription.now
     in let s = sub.search
     in let tells = c.bytes_tell_identifiers_apart.ensures
-    in let graph = c.requires.graph
-    in let draft = c.requires.draft
+    in let graph = c.requires.planned.graph
+    in let draft = c.requires.planned.draft
     in let touched = c.in_ok-items.ensures.touched
     in let told = c.in_ok-told.told
     in let a = fresh old.rows s

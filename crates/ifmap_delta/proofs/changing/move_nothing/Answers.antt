@@ -26,9 +26,9 @@ none g c =
     let old = view_seen g.G.View.rows g.G.View.id_at g.G.View.links c.args.graph.now
     in let new = view_seen g.D.View.rows g.D.View.id_at g.D.View.links c.args.draft.now
     in let sub = c.args.subscription.now
-    in no_flips c.bytes_tell_identifiers_apart.ensures old new sub.search c.requires.graph c.requires.draft
-    c.args.located.now.plan.now.changes c.requires.change sub.region.start sub.region.max_depth (mark_of sub.region.marks.entries)
-    c.requires.kept.marks c.args.located.now.changes.items c.requires.located c.requires.far
+    in no_flips c.bytes_tell_identifiers_apart.ensures old new sub.search c.requires.planned.graph c.requires.planned.draft
+    c.args.located.now.plan.now.changes c.requires.planned.change sub.region.start sub.region.max_depth (mark_of sub.region.marks.entries)
+    c.requires.kept.marks c.args.located.now.changes.items c.requires.planned.located c.requires.far
 
 -- the steps of the repair, however it ends
 spent : (g : given.Over) (c : After-repair g)
@@ -42,10 +42,11 @@ spent g c =
     in let mark = mark_of sub.region.marks.entries
     in let tells = c.bytes_tell_identifiers_apart.ensures
     in let changes = c.args.located.now.plan.now.changes
-    in repair_steps tells old new sub.search c.requires.graph c.requires.draft changes c.requires.change sub.region.start
-    sub.region.max_depth mark c.requires.kept.marks c.args.steps.now c.repair.new.steps
-    (repaired_steps tells old new sub.search c.requires.graph c.requires.draft changes c.requires.change sub.region.start
-    sub.region.max_depth mark c.requires.kept.marks [] (none g c) c.args.steps.now c.repair.new.steps c.repair.ensures.steps)
+    in repair_steps tells old new sub.search c.requires.planned.graph c.requires.planned.draft changes c.requires.planned.change
+    sub.region.start sub.region.max_depth mark c.requires.kept.marks c.args.steps.now c.repair.new.steps
+    (repaired_steps tells old new sub.search c.requires.planned.graph c.requires.planned.draft changes c.requires.planned.change
+    sub.region.start sub.region.max_depth mark c.requires.kept.marks [] (none g c) c.args.steps.now c.repair.new.steps
+    c.repair.ensures.steps)
 
 pub returns-clause-steps : goal.returns-clause-steps
 returns-clause-steps g c = spent g (goal.at.returns-clause-steps g c).After-repair
@@ -62,14 +63,15 @@ returns-clause-moved g c =
     in let mark = mark_of sub.region.marks.entries
     in let tells = c.bytes_tell_identifiers_apart.ensures
     in let changes = c.args.located.now.plan.now.changes
-    in let graph = c.requires.graph
-    in let draft = c.requires.draft
+    in let change = c.requires.planned.change
+    in let graph = c.requires.planned.graph
+    in let draft = c.requires.planned.draft
     in let marks = c.requires.kept.marks
     in let keeps = c.numbers_keep_walks.ensures old.rows old.id_at old.links s sub.region.start graph marks.here
     in let keeps' = c.numbers_keep_walks.ensures new.rows new.id_at new.links s sub.region.start draft
-    (c.requires.change.numbers sub.region.start s.start marks.here)
-    in let settled = all_settled tells old new s graph draft changes c.requires.change sub.region.start sub.region.max_depth mark marks
-    c.args.located.now.changes.items c.requires.located c.requires.far c.levels_are_walks.ensures.reached
+    (change.numbers sub.region.start s.start marks.here)
+    in let settled = all_settled tells old new s graph draft changes change sub.region.start sub.region.max_depth mark marks
+    c.args.located.now.changes.items c.requires.planned.located c.requires.far c.levels_are_walks.ensures.reached
     c.levels_are_walks.ensures.expanded keeps keeps'
     in let a = fresh old.rows s
     in let b = fresh new.rows s
@@ -83,7 +85,7 @@ returns-clause-moved g c =
       deleted = c.new.ensures ∙ deleted;
       updated = c.new-2.ensures ∙ updated;
       keeps = record {
-        marks = repaired_marks tells old new s graph draft changes c.requires.change sub.region.start sub.region.max_depth mark marks
+        marks = repaired_marks tells old new s graph draft changes change sub.region.start sub.region.max_depth mark marks
             [] (none g (goal.at.returns-clause-moved g c).After-repair) (mark_over c.in_ok-patch.patch mark) c.in_ok-patch.ensures.depths;
         size = sizes_differ a b (fresh_rises old.rows s graph.graph) (fresh_rises new.rows s draft.graph) sub.size sub.size
             c.requires.kept.size

@@ -28,7 +28,7 @@ flips_of-requires g c =
     in let on : c.deref-2.result.now ≡ c.args.located.now.changes.items = search rules
     in ap length on
     ∙ each_long (λ d l. IsLocatedTwice old new d.item l) c.args.located.now.plan.now.changes c.args.located.now.changes.items
-    c.requires.located
+    c.requires.planned.located
     ∙ ap length (sym at)
 
 -- what goes to the repair are the flips of the plan
@@ -45,7 +45,7 @@ flips_are g c =
     in let on : c.deref-2.result.now ≡ c.args.located.now.changes.items = search rules
     in let out : c.deref-3.result.now ≡ c.in_ok-flips.flips.items = search rules
     in let are = subst (λ cs. AreLocated old new cs c.deref-2.result.now) (sym at)
-    (subst (λ ls. AreLocated old new c.args.located.now.plan.now.changes ls) (sym on) c.requires.located)
+    (subst (λ ls. AreLocated old new c.args.located.now.plan.now.changes ls) (sym on) c.requires.planned.located)
     in subst (λ l. AreFlipsOf old new sub.search mark l c.deref-3.result.now) at
     (subst (λ l. AreFlipsOf old new sub.search mark c.deref.result.now l) (sym out) (c.in_ok-flips.ensures old new are))
 
@@ -56,8 +56,8 @@ repair-requires-clause-added g c =
     in let sub = c.args.subscription.now
     in let mark = mark_of sub.region.marks.entries
     in let flips = flips_are g (goal.at.repair-requires-clause-added g c).After-deref-3
-    in added_linked c.bytes_tell_identifiers_apart.ensures old new sub.search c.requires.graph
-    c.requires.draft c.args.located.now.plan.now.changes c.requires.change mark c.deref-3.result.now flips
+    in added_linked c.bytes_tell_identifiers_apart.ensures old new sub.search c.requires.planned.graph
+    c.requires.planned.draft c.args.located.now.plan.now.changes c.requires.planned.change mark c.deref-3.result.now flips
 
 pub returns-clause-marks : goal.returns-clause-marks
 returns-clause-marks g c =
@@ -67,8 +67,8 @@ returns-clause-marks g c =
     in let mark = mark_of sub.region.marks.entries
     in let flips = flips_are g (goal.at.returns-clause-marks g c).After-deref-3
     in IfOk-weaker c.repair.result _ _
-    (λ patch d. repaired_marks c.bytes_tell_identifiers_apart.ensures old new sub.search c.requires.graph c.requires.draft
-    c.args.located.now.plan.now.changes c.requires.change sub.region.start sub.region.max_depth mark c.requires.marks
+    (λ patch d. repaired_marks c.bytes_tell_identifiers_apart.ensures old new sub.search c.requires.planned.graph c.requires.planned.draft
+    c.args.located.now.plan.now.changes c.requires.planned.change sub.region.start sub.region.max_depth mark c.requires.marks
     c.deref-3.result.now flips (mark_over patch mark) d)
     c.repair.ensures.depths
 
@@ -79,6 +79,6 @@ returns-clause-steps g c =
     in let sub = c.args.subscription.now
     in let mark = mark_of sub.region.marks.entries
     in let flips = flips_are g (goal.at.returns-clause-steps g c).After-deref-3
-    in repaired_steps c.bytes_tell_identifiers_apart.ensures old new sub.search c.requires.graph c.requires.draft
-    c.args.located.now.plan.now.changes c.requires.change sub.region.start sub.region.max_depth mark c.requires.marks
+    in repaired_steps c.bytes_tell_identifiers_apart.ensures old new sub.search c.requires.planned.graph c.requires.planned.draft
+    c.args.located.now.plan.now.changes c.requires.planned.change sub.region.start sub.region.max_depth mark c.requires.marks
     c.deref-3.result.now flips c.args.steps.now c.repair.new.steps c.repair.ensures.steps

@@ -2,14 +2,20 @@ use Rattle.std.proofs.Common.{subst, sym}
 use Rattle.ifmap_delta.specs.Changes.{ShowsAfter, WouldKeep}
 use Rattle.ifmap_graph.specs.Inside.{GraphInside}
 use Rattle.ifmap_plans.specs.declared.plans.Plan.{Plan}
-use Rattle.ifmap_delta_tests.specs.Worlds.{sight_next, sight_now}
+use Rattle.ifmap_delta_tests.specs.Worlds.{IsWorldSeen, sight_next, sight_now}
 use Rattle.ifmap_delta_tests.proofs.stepping.change_with.Goals as goal
 
-pub change-requires-clause-change : goal.change-requires-clause-change
-change-requires-clause-change g c =
+pub change-requires-clause-planned : goal.change-requires-clause-planned
+change-requires-clause-planned g c =
     let old = sight_now c.args.graph.now
-    in subst (λ (p : Plan). ShowsAfter old (sight_next c.of-draft.result) p.changes) (sym c.in_ok-located.ensures.plan)
-    (subst (λ (h : GraphInside). ShowsAfter old (sight_next h) c.args.plan.now.changes) (sym c.of-draft.ensures) c.requires.change)
+    in record {
+      graph = c.requires.now;
+      draft = subst (λ (h : GraphInside). IsWorldSeen (sight_next h)) (sym c.of-draft.ensures) c.requires.next;
+      change = subst (λ (p : Plan). ShowsAfter old (sight_next c.of-draft.result) p.changes) (sym c.in_ok-located.ensures.plan)
+          (subst (λ (h : GraphInside). ShowsAfter old (sight_next h) c.args.plan.now.changes) (sym c.of-draft.ensures)
+          c.requires.change);
+      located = c.in_ok-located.ensures.located.changes;
+    }
 
 pub returns : goal.returns
 returns g c =
