@@ -9,6 +9,7 @@ use Rattle.ifmap_region.specs.Marks.{mark_of, mark_over}
 use Rattle.ifmap_search.specs.declared.searches.Search.{Search}
 use Rattle.ifmap_view.specs.declared.attachments.Attachment.{Attachment}
 use Rattle.ifmap_view.specs.declared.views.LinkSeen.{LinkSeen}
+use Rattle.ifmap_view.specs.Attachments.{IsGraph}
 use Rattle.ifmap_view.specs.Rows.{stored_on}
 use Rattle.ifmap_view.specs.Views.{IsView}
 use Rattle.ifmap_fresh.specs.Collected.{is_below}
@@ -16,7 +17,7 @@ use Rattle.ifmap_fresh.specs.Fresh.{is_looked_at}
 use Rattle.ifmap_fresh.specs.Linking.{is_terminal_at}
 use Rattle.ifmap_delta.specs.declared.marks.Patched.{Patched}
 use Rattle.ifmap_delta.specs.declared.sides.Side.{Side}
-use Rattle.ifmap_delta.specs.Sights.{HaveMarks, view_seen}
+use Rattle.ifmap_delta.specs.Sights.{HaveMarks, ViewSeen, view_seen}
 
 -- walks go on from a number with this identifier and mark
 abbrev pub goes_on : Search → Option Identifier → Option ℕ → Bool
@@ -45,3 +46,10 @@ abbrev pub HasSideMarks : {V M : Type 0} → (V → List Attachment) → (V → 
     → (V → ℕ → List LinkSeen) → (M → ℕ → Option ℕ) → Side V M → Type 0
 HasSideMarks rows id_at links mark side =
     HaveMarks (view_seen rows id_at links side.view.now) side.search.now (mark side.marks.now)
+
+-- the two sides of a change: what each shows is a graph, and its marks are those of its search over that
+pub record AreSides {G D : Type 0} (old new : ViewSeen) (one : Side G Region) (other : Side D Patched) : Type 0 where
+  pub graph : IsGraph old.rows
+  pub draft : IsGraph new.rows
+  pub before : HaveMarks old one.search.now (region_mark one.marks.now)
+  pub after : HaveMarks new other.search.now (patched_mark other.marks.now)

@@ -2,7 +2,8 @@
 ghost use Rattle.std.specs.Prelude.{◌≡◌, ◌≢◌, false, ◌+◌, ◌∷◌, ◌++◌, [], ◌-◌, ◌<◌, ◌^◌, List, OnOk, IfOk, IfSome, option_copied};
 ghost use Rattle.std.specs.List.{AllByRecursion};
 ghost use Rattle.std.specs.List.Sorted.{IsStrictlySortedBy};
-ghost use Rattle.ifmap_delta.specs.Shown.{HasSideMarks, patched_mark, region_mark, shown_on};
+ghost use Rattle.ifmap_delta.specs.Shown.{AreSides, shown_on};
+ghost use Rattle.ifmap_delta.specs.Sights.{view_seen};
 ghost use Rattle.ifmap_delta.specs.Touched.{IsChanged, change_at, has_met, items_touched, surplus, surplus_on, rows_touched_by};
 ghost use Rattle.ifmap_ident.specs.Items.{IsCanonItem, item_order};
 ghost use Rattle.ifmap_ident.specs.declared.items.Item.{Item};
@@ -11,7 +12,7 @@ ghost use Rattle.ifmap_meta.specs.declared.stored.Stored.{Stored};
 ghost use Rattle.ifmap_plans.specs.Lists.{next_on};
 ghost use Rattle.ifmap_plans.specs.Plans.{IsAfter};
 ghost use Rattle.ifmap_search.specs.Sizes.{entries_size, entry_size};
-ghost use Rattle.ifmap_view.specs.Attachments.{IsGraph, stored_order};
+ghost use Rattle.ifmap_view.specs.Attachments.{stored_order};
 
 use crate::marks::Patched;
 use crate::pairing::{TouchedItem, pair_with_changes};
@@ -212,10 +213,8 @@ fn add_differences<G: View, D: View>(
     changes: &[ItemChange],
     told: &mut ToldEntries,
 ) -> Result<(), NoMemory>
-    requires graph { IsGraph (G.rows before.now.view.now) }
-    requires draft { IsGraph (D.rows after.now.view.now) }
-    requires before { HasSideMarks G.rows G.id_at G.links region_mark before.now }
-    requires after { HasSideMarks D.rows D.id_at D.links patched_mark after.now }
+    requires sides { AreSides (view_seen G.rows G.id_at G.links before.now.view.now)
+        (view_seen D.rows D.id_at D.links after.now.view.now) before.now after.now }
     requires canon { IsCanonItem one.item }
     requires change { IsChanged (G.rows before.now.view.now) (D.rows after.now.view.now)
         changes.now one }
@@ -255,10 +254,8 @@ fn differences_of<G: View, D: View>(
     touched: Vec<TouchedItem>,
     changes: &[ItemChange],
 ) -> Result<ToldEntries, NoMemory>
-    requires graph { IsGraph (G.rows before.now.view.now) }
-    requires draft { IsGraph (D.rows after.now.view.now) }
-    requires before { HasSideMarks G.rows G.id_at G.links region_mark before.now }
-    requires after { HasSideMarks D.rows D.id_at D.links patched_mark after.now }
+    requires sides { AreSides (view_seen G.rows G.id_at G.links before.now.view.now)
+        (view_seen D.rows D.id_at D.links after.now.view.now) before.now after.now }
     requires canon { AllByRecursion (λ t. IsCanonItem t.item) touched.items }
     requires changes { AllByRecursion (IsChanged (G.rows before.now.view.now)
         (D.rows after.now.view.now) changes.now) touched.items }
@@ -290,10 +287,8 @@ pub(crate) fn differences_on<G: View, D: View>(
     items: Vec<Item>,
     changes: &[ItemChange],
 ) -> Result<ToldEntries, NoMemory>
-    requires graph { IsGraph (G.rows before.now.view.now) }
-    requires draft { IsGraph (D.rows after.now.view.now) }
-    requires before { HasSideMarks G.rows G.id_at G.links region_mark before.now }
-    requires after { HasSideMarks D.rows D.id_at D.links patched_mark after.now }
+    requires sides { AreSides (view_seen G.rows G.id_at G.links before.now.view.now)
+        (view_seen D.rows D.id_at D.links after.now.view.now) before.now after.now }
     requires rising { IsStrictlySortedBy item_order items.items }
     requires canon { (x : Item) → Has items.items x → IsCanonItem x }
     requires change { IsAfter changes.now (G.rows before.now.view.now)

@@ -65,13 +65,15 @@ touched_items-requires-clause-located g c =
     in subst (λ cs. AreLocated old new cs c.deref-3.result.now) (sym at)
     (subst (λ ls. AreLocated old new c.args.located.now.plan.now.changes ls) (sym on) c.requires.planned.located)
 
-pub differences_on-requires-clause-before : goal.differences_on-requires-clause-before
-differences_on-requires-clause-before g c =
-    (c.args.subscription.now.region.start, c.args.subscription.now.region.max_depth, c.requires.kept.marks)
-
-pub differences_on-requires-clause-after : goal.differences_on-requires-clause-after
-differences_on-requires-clause-after g c =
-    (c.args.subscription.now.region.start, c.args.subscription.now.region.max_depth, c.in_ok-patch.ensures.marks)
+pub differences_on-requires-clause-sides : goal.differences_on-requires-clause-sides
+differences_on-requires-clause-sides g c =
+    let sub = c.args.subscription.now
+    in record {
+      graph = c.requires.planned.graph.graph;
+      draft = c.requires.planned.draft.graph;
+      before = (sub.region.start, sub.region.max_depth, c.requires.kept.marks);
+      after = (sub.region.start, sub.region.max_depth, c.in_ok-patch.ensures.marks);
+    }
 
 pub differences_on-requires-clause-rising : goal.differences_on-requires-clause-rising
 differences_on-requires-clause-rising g c = c.in_ok-items.ensures.touched.rising

@@ -16,13 +16,13 @@ was_rises : (g : given.Over) (c : After-rows_shown-now g) → IsStrictlySortedBy
 was_rises g c =
     let before = c.args.before.now
     in subst (IsStrictlySortedBy stored_order) (sym c.rows_shown-was.ensures)
-    (shown_rises (g.G.View.rows before.view.now) before.search.now c.args.one.item c.requires.graph)
+    (shown_rises (g.G.View.rows before.view.now) before.search.now c.args.one.item c.requires.sides.graph)
 
 now_rises : (g : given.Over) (c : After-rows_shown-now g) → IsStrictlySortedBy stored_order c.rows_shown-now.result.now
 now_rises g c =
     let after = c.args.after.now
     in subst (IsStrictlySortedBy stored_order) (sym c.rows_shown-now.ensures)
-    (shown_rises (g.D.View.rows after.view.now) after.search.now c.args.one.item c.requires.draft)
+    (shown_rises (g.D.View.rows after.view.now) after.search.now c.args.one.item c.requires.sides.draft)
 
 -- where both sides show the item, what is shown now is what the change beside it makes of what was shown
 changed_rows : (g : given.Over) (c : After-change_at g)
