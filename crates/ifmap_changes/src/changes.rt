@@ -67,7 +67,7 @@ pub fn make_change<L: Ledger>(
         → HasNoSubscriptions n parts.new pending.new) }
     ensures kept { OnErr result (AreKept parts.old parts.new) }
 
-    // Also where memory runs out.
+    // Also at want of memory.
     ensures steps { IsPlanWithin plan (state_now asking.now parts.old pending.old) steps.old
         steps.new }
 {
@@ -99,7 +99,7 @@ pub fn make_kept<L: Ledger>(
     ensures numbers { OnOk result (KeepsNumbers parts.old.graph parts.new.graph) }
     ensures kept { OnErr result (AreKept parts.old parts.new) }
 
-    // Also where memory runs out.
+    // Also at want of memory.
     ensures steps { IsPlanWithin plan (state_now asking.now parts.old pending.old) steps.old
         steps.new }
 {

@@ -54,7 +54,7 @@ pub fn publish<L: Ledger>(
     ensures changed { OnOk result (AreChanged asking.now parts.old parts.new pending.new) }
     ensures kept { OnErr result (AreKept parts.old parts.new) }
 
-    // Also where memory runs out.
+    // Also at want of memory.
     ensures steps { let by : Authorship = record {
       client = asking.now.client;
       serial = publication.now.serial;
@@ -91,7 +91,7 @@ pub fn take_away<L: Ledger>(
         → HasNoSubscriptions n parts.new pending.new) }
     ensures kept { OnErr result (AreKept parts.old parts.new) }
 
-    // Also where memory runs out.
+    // Also at want of memory.
     ensures steps { IsTakenWithin who.now (state_now asking.now parts.old pending.old) steps.old
         steps.new }
 {
@@ -133,7 +133,7 @@ pub fn take_away_one<L: Ledger>(
     ensures bare { OnOk result (HasNoSubscriptions serial parts.new pending.new) }
     ensures kept { OnErr result (AreKept parts.old parts.new) }
 
-    // Also where memory runs out.
+    // Also at want of memory.
     ensures steps { IsEndedWithin (serial ∷ []) (state_now asking.now parts.old pending.old)
         steps.old steps.new }
 {
@@ -164,7 +164,7 @@ pub fn take_away_kept<L: Ledger>(
     ensures numbers { OnOk result (KeepsNumbers parts.old.graph parts.new.graph) }
     ensures kept { OnErr result (AreKept parts.old parts.new) }
 
-    // Also where memory runs out.
+    // Also at want of memory.
     ensures steps { IsTakenWithin who.now (state_now asking.now parts.old pending.old) steps.old
         steps.new }
 {

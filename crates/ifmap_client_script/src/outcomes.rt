@@ -23,7 +23,7 @@ pub enum Outcome {
     /// The answer to that line was none of HTTP, had another status than 200, or had a body that is no
     /// reply.
     BadReply { line: u64 },
-    /// There was no memory.
+    /// Want of memory.
     NoMemory,
 }
 
@@ -36,6 +36,7 @@ pub enum ScriptFailure {
     LinkFault,
     LinkEnded,
     BadReply,
+    /// Want of memory.
     NoMemory,
 }
 

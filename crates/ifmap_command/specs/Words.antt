@@ -31,7 +31,7 @@ pub record IsWrong (words : List (List ℕ)) : Type 0 where
   pub no_drill : (key count : ℕ) → IsDrill words key count → ⊥
   pub no_serve : (address : List ℕ) (workers : ℕ) → IsServe words address workers → ⊥
 
--- the words ask for the form; where there was no memory nothing is said of them
+-- the words ask for the form; at want of memory nothing is said of them
 abbrev pub Asks : List (List ℕ) → Form → Type 0
 Asks words form.Replay = IsReplay words
 Asks words (form.Drill key count) = IsDrill words key count

@@ -27,7 +27,7 @@ pub enum Form {
     Serve { address: Text, workers: u32 },
     /// None of these.
     Wrong,
-    /// There was no memory to read the words.
+    /// Want of memory. Nothing is said of the words.
     NoMemory,
 }
 

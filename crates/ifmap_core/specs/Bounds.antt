@@ -1,4 +1,4 @@
--- How many steps an event takes, also where memory runs out: first what ends the sessions that are expired, then what is asked.
+-- How many steps an event takes, also at want of memory: first what ends the sessions that are expired, then what is asked.
 --
 --   each change of the graph                        the sum of the bounds of the subscriptions that stand at it (IsToldWithin)
 --   each change that takes away, besides            one more than there are items with an attachment before it (IsTakenWithin)

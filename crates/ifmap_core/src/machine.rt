@@ -119,8 +119,8 @@ impl Core {
             → ((answer ≡ the_answer.Reply the_reply.Ended)
             ↔ PollsNoSession (state_for self.old event.now) event.now.again event.now.ask)) }
 
-        // It takes at most the sum of the steps that the event's changes and searches may take, also where
-        // memory runs out.
+        // It takes at most the sum of the steps that the event's changes and searches may take,
+        // also at want of memory.
         ensures steps { IsWithinTable self.old event.now steps.old steps.new }
     {
         let moment = later_moment(self.moment, event.moment);

@@ -34,8 +34,8 @@ use std::sync::ledger::Ledger;
 /// The draft shows the graph after the plan, with the same numbers. The only error is want of memory,
 /// also where the new size passes 2^64 - 1. Nothing of the subscription changes.
 ///
-/// It takes at most ten times the links of what is near the links that came and went, also where memory
-/// runs out.
+/// It takes at most ten times the links of what is near the links that came and went, also at want
+/// of memory.
 pub fn change<'a, G: View, D: View, L: Ledger>(
     alloc: Global,
     subscription: &'a Subscription,
@@ -50,7 +50,7 @@ pub fn change<'a, G: View, D: View, L: Ledger>(
     ensures moved { IfOk result (IsMovedBetween (view_seen G.rows G.id_at G.links graph.now)
         (view_seen D.rows D.id_at D.links draft.now) subscription.now) }
 
-    // Also where memory runs out.
+    // Also at want of memory.
     ensures steps { IsWithinBound (view_seen G.rows G.id_at G.links graph.now)
         (view_seen D.rows D.id_at D.links draft.now) subscription.now.search
         subscription.now.region.start steps.old steps.new }

@@ -34,7 +34,7 @@ pub fn subscribe<V: View, L: Ledger>(
     ensures answer { IfOk result (IsSubscribed (view_seen V.rows V.id_at V.links view.now) search
         start) }
 
-    // Also where memory runs out.
+    // Also at want of memory.
     ensures steps { IsWithin (λ v. length (V.links view.now v))
         (IsReachedAt (V.rows view.now) (V.id_at view.now) search) 4 steps.old steps.new }
 {

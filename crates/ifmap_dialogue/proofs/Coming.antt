@@ -46,7 +46,7 @@ module _ {H : Type 0} (gives : ℕ → Type 0) (before after : DeskSeen H) where
         (record { client = refl; bytes = short; means = means; random = word; drawn = drawn });
   }
 
-  -- of a request nothing comes where memory is wanting before it is asked
+  -- of a request nothing comes where want of memory comes before it is asked
   pub none_asked : (a : OwnRequest) → after ≡ before → a.after ≡ a.words → FindsRequest gives before after a finding.NoMemory
   none_asked a same kept = record {
     turns = [];

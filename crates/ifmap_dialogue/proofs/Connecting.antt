@@ -117,7 +117,7 @@ module _ {H : Type 0} (gives : ℕ → Type 0) (number : ℕ) (desk : DeskSeen H
     unread sent.WriteFault = λ e. cc
     unread sent.NoMemory = λ e. cc
 
-  -- memory was wanting for reading it, and that was answered
+  -- want of memory for reading it, and that was answered
   pub round_wanting : (output : List ℕ) → IfSome before.left (λ left. GetsPost left mid.left got.NoMemory) → IsNoMemoryOutput output
       → GainsBytes mid after output → ServesRound gives number (scene desk before words) (scene desk after words) (Some ending.NoMemory)
   round_wanting output reads given g = record {

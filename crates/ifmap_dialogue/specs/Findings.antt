@@ -74,7 +74,7 @@ abbrev pub IsUsedUp : (ℕ → Type 0) → Posting → List Turn → ℕ → Typ
 IsUsedUp gives p turns entries =
     (question : Question) × Puts gives p turns question × EndsIn (outcome.Spent entries) turns
 
--- memory was wanting before the first ask, after some that were held, or at the desk
+-- want of memory before the first ask, after some that were held, or at the desk
 abbrev pub IsWanting : (ℕ → Type 0) → Posting → List Turn → Type 0
 IsWanting gives p turns =
     AsksNothing p turns ⊎ ((question : Question) × Puts gives p turns question

@@ -10,7 +10,7 @@ use Rattle.ifmap_http.specs.Wires.{WireSeen}
 abbrev pub bare_answer : ℕ → List ℕ
 bare_answer status = answer_bytes status [] true
 
--- what comes of writing an answer once: all of it, or a prefix of it where writing failed, or nothing where memory was wanting
+-- what comes of writing an answer once: all of it, or a prefix of it where writing failed, or nothing at want of memory
 abbrev pub WritesOnce : List ℕ → Sent → List ℕ → Type 0
 WritesOnce answer sent.Done output = output ≡ answer
 WritesOnce answer sent.WriteFault output = (n : ℕ) × (output ≡ take n answer)
@@ -20,7 +20,7 @@ WritesOnce answer sent.NoMemory output = output ≡ []
 abbrev pub IsNoMemoryOutput : List ℕ → Type 0
 IsNoMemoryOutput output = (n : ℕ) × (output ≡ take n (bare_answer 503))
 
--- what comes of writing an answer: all of it, or a prefix of it where writing failed; where memory was wanting none of it, and that is
+-- what comes of writing an answer: all of it, or a prefix of it where writing failed; at want of memory none of it, and that is
 -- answered as far as can be
 abbrev pub WritesAnswer : List ℕ → Sent → List ℕ → Type 0
 WritesAnswer answer sent.Done output = output ≡ answer

@@ -47,6 +47,6 @@ pub enum AskOutcome {
     Held,
     /// The desk has no number left for another call. So many were made.
     Spent { entries: u64 },
-    /// Memory is wanting.
+    /// Want of memory.
     NoMemory,
 }

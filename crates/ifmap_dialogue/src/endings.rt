@@ -23,6 +23,6 @@ pub enum Ending {
     Unheard { entries: u64 },
     /// The desk had no number left for a request. So many calls were made there.
     Spent { entries: u64 },
-    /// Memory was wanting.
+    /// Want of memory.
     NoMemory,
 }

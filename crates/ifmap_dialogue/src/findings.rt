@@ -15,6 +15,6 @@ pub enum Finding {
     HeldOut { turns: u32 },
     /// The desk has no number left for the request. So many calls were made there.
     Spent { entries: u64 },
-    /// Memory is wanting.
+    /// Want of memory.
     NoMemory,
 }

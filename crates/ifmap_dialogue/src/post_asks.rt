@@ -154,7 +154,7 @@ fn ask_poll<K: Desk, C: Clock, G: Gate>(
     }
 }
 
-// A poll, and its first event. No word is taken where memory is wanting.
+// A poll, and its first event. No word is taken at want of memory.
 fn begin_poll<C: Clock>(
     setting: &Setting<'_, C>,
     words: &mut ChaCha20Rng,

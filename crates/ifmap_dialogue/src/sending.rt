@@ -71,7 +71,7 @@ pub(crate) fn send_bare<L: Link, G: Gate>(
     send(alloc, wire, gate, status, b"", Then::Close)
 }
 
-// Writes an answer. Where memory is wanting that is answered, as far as can be.
+// Writes an answer. Want of memory is answered too, as far as can be.
 fn send<L: Link, G: Gate>(
     alloc: Global,
     wire: &mut Wire<L>,
@@ -97,7 +97,7 @@ fn send<L: Link, G: Gate>(
     }
 }
 
-// Answers that memory is wanting, as far as can be.
+// Answers want of memory, as far as can be.
 pub(crate) fn give_up<L: Link, G: Gate>(alloc: Global, wire: &mut Wire<L>, gate: &mut G)
     ensures { let seen = wire_seen L.left L.held L.Source.faults L.Sink.faults in
         (output : List ℕ) × IsNoMemoryOutput output

@@ -29,7 +29,7 @@ pub enum Plan {
     Answered,
     /// There is no number left.
     Spent,
-    /// Memory is wanting.
+    /// Want of memory.
     NoMemory,
 }
 

@@ -27,7 +27,7 @@ module _ (text : List ℕ) (before after : SinkSeen) where
       (status ≡ write_fault_status) × ((n : ℕ) × Appends before.held after.held (take n text))
       × Rose before.faults after.faults
 
-  -- there was no memory, and nothing was written
+  -- want of memory, and nothing was written
   abbrev pub IsNothingWritten : ℕ → Type 0
   IsNothingWritten status = (status ≡ no_memory_status) × Keeps before.held after.held
 

@@ -122,7 +122,7 @@ abbrev pub NestsNoDeeper : List ℕ → List (List ℕ) → Filter → Type 0
 NestsNoDeeper text spaces filter =
     (depth : ℕ) → CanBeParsedWithin depth filter → WritesFilterWithin depth text (numbered_scope spaces) filter
 
--- what `parse` answers of the text in that scope: the filter, unless there is no memory for it
+-- what `parse` answers of the text in that scope: the filter, unless there is want of memory
 abbrev pub IsAnsweredBack : List ℕ → List (List ℕ) → Filter → Type 0
 IsAnsweredBack text spaces filter =
     (result : Result Filter FilterError) → IsParsed text (numbered_scope spaces) result

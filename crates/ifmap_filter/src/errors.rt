@@ -9,6 +9,7 @@ pub enum FilterError {
     /// after those before it, no token stands there, or the text ends there too soon.
     #[error("no filter: byte {at} begins nothing that is allowed there")]
     NotAFilter { at: u64 },
+    /// Want of memory.
     #[error("out of memory")]
     NoMemory,
 }

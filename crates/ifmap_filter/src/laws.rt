@@ -20,7 +20,7 @@ pub fn text_stops_at_one_place()
 
 /// What is printed of a filter that some text writes, where each of its namespaces has a prefix,
 /// writes that filter in the scope of these prefixes, with parentheses that nest no deeper than
-/// those of that text; and `parse` answers it, unless memory runs out.
+/// those of that text; and `parse` answers it, unless there is want of memory.
 pub fn printed_filter_is_parsed_back()
     ensures written { PrintedIsParsedBack }
     ensures nesting { PrintedNestsNoDeeper }

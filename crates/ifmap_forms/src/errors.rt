@@ -9,7 +9,7 @@ pub enum FormError {
     /// It has a defect, and this is its code: that of the first, where there are several.
     #[error("the element is of no form that a message has")]
     Named(Code),
-    /// Memory ran out. It is answered too where a child has an index that no path can have, which
+    /// Want of memory. It is answered too where a child has an index that no path can have, which
     /// is 2^32 or more.
     #[error("out of memory")]
     NoMemory,

@@ -30,7 +30,7 @@ use std::alloc::{AllocError as NoMemory, Global};
 // So many items can have a shelf: more, and the holds of their identifiers could not be counted.
 pub(crate) const MOST_ITEMS: usize = 1 << 62;
 
-// Room for two numbers more, with their links. Where memory runs out, there may be more room.
+// Room for two numbers more, with their links. After want of memory, there may be more room.
 fn make_room(
     names: &mut Pool<Identifier>,
     links: &mut Vec<Sided<LinkSeen>>,
@@ -98,8 +98,8 @@ fn place_missing(
     Ok(true)
 }
 
-// Shelves for the items of a change that have none, and marks at those. Where memory runs out,
-// some have come.
+// Shelves for the items of a change that have none, and marks at those. After want of memory, some
+// have come.
 pub(crate) fn place_items(
     names: &mut Pool<Identifier>,
     shelves: &mut Shelves,

@@ -48,8 +48,8 @@ fn draft_one(shelves: &mut Shelves, alloc: Global, change: &ItemChange) -> Resul
     Ok(())
 }
 
-// What is to be stored after a change, on items that have shelves, none of which has a draft.
-// Where memory runs out, some have one.
+// What is to be stored after a change, on items that have shelves, none of which has a draft. After
+// want of memory, some have one.
 pub(crate) fn draft_changes(
     shelves: &mut Shelves,
     alloc: Global,
@@ -76,7 +76,7 @@ pub(crate) fn draft_changes(
 }
 
 // The drafts of a change, whose items have shelves: what is to be stored on them, and the links
-// that are to be. Nothing has a draft before. Where memory runs out, some stand.
+// that are to be. Nothing has a draft before. After want of memory, some stand.
 pub(crate) fn draft_plan(
     shelves: &mut Shelves,
     links: &mut Vec<Sided<LinkSeen>>,
@@ -96,7 +96,7 @@ pub(crate) fn draft_plan(
     touch_slots(links, &shelves.slots, alloc, &touched, ways)
 }
 
-// The same, and the items are waited for once more. Where memory runs out, some drafts stand.
+// The same, and the items are waited for once more. After want of memory, some drafts stand.
 pub(crate) fn draft_and_wait(
     shelves: &mut Shelves,
     links: &mut Vec<Sided<LinkSeen>>,

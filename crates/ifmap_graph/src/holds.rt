@@ -18,7 +18,7 @@ use ifmap_ident::laws::bytes_tell_identifiers_apart;
 use std::alloc::{AllocError as NoMemory, Global};
 
 impl Graph {
-    /// The number of an identifier, held once more. Where memory runs out, all is as before but for
+    /// The number of an identifier, held once more. After want of memory, all is as before but for
     /// room.
     pub fn hold(&mut self, alloc: Global, id: &Identifier) -> Result<u64, NoMemory>
         requires canon { IsIdentifier id.now }

@@ -269,7 +269,7 @@ fn touch_slot(
     touch_number(links, slots, alloc, at, numbers.1 as usize, ways)
 }
 
-// The drafts of links, where these slots come to be full or empty. Where memory runs out, some
+// The drafts of links, where these slots come to be full or empty. After want of memory, some
 // stand.
 pub(crate) fn touch_slots(
     links: &mut Vec<Sided<LinkSeen>>,

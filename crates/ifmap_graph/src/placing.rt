@@ -26,7 +26,7 @@ use ifmap_pool::Pool;
 use ifmap_view::LinkSeen;
 use std::alloc::{AllocError as NoMemory, Global};
 
-// Room for so many lists; the new ones are empty. Where memory runs out, some may be there.
+// Room for so many lists; the new ones are empty. After want of memory, some may be there.
 pub(crate) fn lengthen(
     links: &mut Vec<Sided<LinkSeen>>,
     alloc: Global,
@@ -43,7 +43,7 @@ pub(crate) fn lengthen(
 }
 
 // A shelf for an item that has none, still empty, that nobody waits for. `ends` is the item once
-// more. Where memory runs out, all is as before but for room.
+// more. After want of memory, all is as before but for room.
 pub(crate) fn place_shelf(
     names: &mut Pool<Identifier>,
     shelves: &mut Shelves,

@@ -48,8 +48,8 @@ struct Coming<'a> {
     fresh: &'a [bool],
 }
 
-// The drafts of a change whose items have shelves, of which some are marked that came for it. Where
-// memory runs out, those go again.
+// The drafts of a change whose items have shelves, of which some are marked that came for it. After
+// want of memory, those go again.
 fn draft_or_take(
     names: &mut Pool<Identifier>,
     shelves: &mut Shelves,
@@ -92,7 +92,7 @@ fn draft_or_take(
     }
 }
 
-// A change comes to be out. Where memory runs out, all is as before but for room.
+// A change comes to be out. After want of memory, all is as before but for room.
 fn make_ready(
     names: &mut Pool<Identifier>,
     shelves: &mut Shelves,

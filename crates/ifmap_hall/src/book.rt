@@ -21,7 +21,7 @@ pub enum Asked<E, R> {
     /// No entry can be made any more, since there is no number left for its place. So many entries
     /// were made.
     Spent { entries: u64, event: E },
-    /// Memory is wanting, and no entry was made.
+    /// Want of memory. No entry was made.
     NoMemory { event: E },
 }
 

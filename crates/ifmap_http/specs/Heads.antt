@@ -19,7 +19,7 @@ AwaitsPost bytes left post.Truncated = IsAtEnd left × ReadsPost bytes truncated
 AwaitsPost bytes left post.ReadFault = Unit {0}
 AwaitsPost bytes left post.NoMemory = Unit {0}
 
--- P, unless reading failed or memory was wanting
+-- P, unless reading failed or there was want of memory
 abbrev pub UnlessPostFails : AwaitedPost → Type 0 → Type 0
 UnlessPostFails (post.Taken size terms) P = P
 UnlessPostFails (post.Refused number) P = P
@@ -38,7 +38,7 @@ AwaitsAnswer bytes left answer.Ended = IsAtEnd left × ReadsAnswer bytes unanswe
 AwaitsAnswer bytes left answer.ReadFault = Unit {0}
 AwaitsAnswer bytes left answer.NoMemory = Unit {0}
 
--- P, unless reading failed or memory was wanting
+-- P, unless reading failed or there was want of memory
 abbrev pub UnlessAnswerFails : AwaitedAnswer → Type 0 → Type 0
 UnlessAnswerFails (answer.Sized size body) P = P
 UnlessAnswerFails (answer.Refused size number) P = P

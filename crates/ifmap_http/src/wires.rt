@@ -41,6 +41,7 @@ pub enum Got {
     Status(u16),
     /// The link's reading failed, and its count of reading rose.
     ReadFault,
+    /// Want of memory.
     NoMemory,
 }
 
@@ -57,6 +58,7 @@ pub enum Answered {
     NotHttp,
     /// The link's reading failed, and its count of reading rose.
     ReadFault,
+    /// Want of memory.
     NoMemory,
 }
 
@@ -67,7 +69,7 @@ pub enum Sent {
     Done,
     /// The link's writing failed, and its count of writing rose: a prefix of the message was written.
     WriteFault,
-    /// Nothing was written.
+    /// Want of memory. Nothing was written.
     NoMemory,
 }
 

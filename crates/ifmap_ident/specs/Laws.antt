@@ -6,7 +6,7 @@ use Rattle.ifmap_ident.specs.declared.errors.IdentError.{IdentError}
 use Rattle.ifmap_ident.specs.declared.errors.IdentError.TheVariants.{NoMemory}
 use Rattle.ifmap_ident.specs.declared.identifiers.Identifier.{Identifier}
 
--- two answers are one, unless memory ran out at one of them
+-- two answers are one, unless one of them is want of memory
 abbrev pub AreOneAnswer : Result Identifier IdentError → Result Identifier IdentError → Type 0
 AreOneAnswer one other = (one ≡ other) ⊎ ((one ≡ Err NoMemory) ⊎ (other ≡ Err NoMemory))
 

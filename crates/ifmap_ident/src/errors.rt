@@ -14,7 +14,7 @@ pub enum IdentError {
     /// The identifier has more than 4,096 canonical bytes.
     #[error("the identifier has more than 4096 canonical bytes")]
     TooLong,
-    /// Memory ran out.
+    /// Want of memory.
     #[error("out of memory")]
     NoMemory,
 }

@@ -17,7 +17,7 @@ pub const CHUNK: usize = 65_536;
 pub enum InputError {
     /// The read failed, and took nothing.
     ReadFault,
-    /// There was no memory. What the read took is lost.
+    /// Want of memory. What the read took is lost.
     NoMemory,
 }
 

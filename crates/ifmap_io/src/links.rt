@@ -22,8 +22,7 @@ pub trait Link: Source + Sink + Drop {
 }
 
 /// A link over bytes in memory. It tells what it has left and what it holds. A read gives as many
-/// bytes as fit. A write fails too where it finds no memory, and where it fails nothing of it is
-/// written.
+/// bytes as fit. A write fails too at want of memory, and where it fails nothing of it is written.
 #[derive(Drop)]
 pub struct MemoryLink {
     bytes: Vec<u8>,

@@ -78,8 +78,8 @@ impl Source for MemorySource {
     }
 }
 
-/// A sink over a vector. It tells what it holds. A write fails too where it finds no memory, and
-/// where it fails nothing of it is written.
+/// A sink over a vector. It tells what it holds. A write fails too at want of memory, and where it
+/// fails nothing of it is written.
 #[derive(Drop)]
 pub struct MemorySink {
     held: Vec<u8>,

@@ -9,6 +9,7 @@ use thiserror::Error;
 pub enum LexError {
     #[error("no token stands here")]
     Malformed,
+    /// Want of memory.
     #[error("out of memory")]
     NoMemory,
 }

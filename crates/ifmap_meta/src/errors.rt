@@ -11,7 +11,7 @@ pub enum MetaError {
     /// Its content is longer than 100,000 canonical bytes.
     #[error("the content of the element is too long")]
     TooLong,
-    /// Memory ran out.
+    /// Want of memory.
     #[error("out of memory")]
     NoMemory,
 }

@@ -13,7 +13,7 @@ use Rattle.ifmap_serving.specs.declared.stands.Stand.{Stand}
 use Rattle.ifmap_serving.specs.Stands.{AreServed, AreUnserved, status_of_stands}
 use Rattle.ifmap_serving.specs.Works.{DoorSeen}
 
--- stands were served over one hall, and the status tells how that went; or there was no memory to begin with, and no door was touched
+-- stands were served over one hall, and the status tells how that went; or there was want of memory before that, and no door was touched
 pub record ServesStands {D G : Type 0} (gives : ℕ → Type 0) (see : D → DoorSeen) (key : List ℕ) (before after : List (Stand D G))
     (status : ℕ)
     : Type 0 where

@@ -38,7 +38,7 @@ pub record AreCanonical (bytes : List ℕ) (depth : ℕ) (e : Element) : Type 0 
   pub shallow : nesting e ≤ depth
   pub bytes_are : bytes ≡ canonical_bytes e
 
--- what is read is the element with its attributes in order and the declarations of its printing, unless memory runs out
+-- what is read is the element with its attributes in order and the declarations of its printing, unless there is want of memory
 abbrev pub GivesBack : Element → Result Reading ReadError → Type 0
 GivesBack e result = IfOk result (λ r. r ≡ canonical_reading e) × IfErr result (λ error. error ≡ NoMemory)
 

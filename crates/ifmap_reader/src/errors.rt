@@ -11,6 +11,7 @@ pub enum ReadError {
     /// The tag at this byte opens a level too many.
     #[error("the tag at byte {at} nests too deep")]
     TooDeep { at: u64 },
+    /// Want of memory.
     #[error("out of memory")]
     NoMemory,
 }

@@ -357,7 +357,7 @@ module _ (links : ℕ → ℕ → Type 0) (terminal : ℕ → Bool) (start top :
           (owed + sum_by count queue') (omega (arith, ap (sum_by count) p.1, sum_by_push count queue v)) c
     ]
 
-    -- where memory runs out
+    -- at want of memory
     pub charged_part : (level v : ℕ) (queue : List ℕ) (first : ℕ → Option ℕ) (before owed : ℕ)
         → (level ≤ top) × Walk links terminal start level v
         → (rows' ≡ rows) ⊎ IsLowered level v (mark_over rows below) (mark_over rows' below)

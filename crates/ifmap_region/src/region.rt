@@ -51,7 +51,7 @@ pub fn build<G: LinkSource, L: Ledger>(
         (mark_of region.marks.entries)) }
     ensures rows { IfOk result (λ region. AllMarked region.marks.entries) }
 
-    // Also where memory runs out.
+    // Also at want of memory.
     ensures steps { let seen = G.seen graph.now in
         IsWithin seen.count (IsReached (links_of seen) seen.terminal start max_depth) 1 steps.old
         steps.new }
@@ -86,7 +86,7 @@ impl Region {
 
     /// Makes room for a patch: afterwards each of its numbers has a row. The marks stay as they are.
     ///
-    /// Memory can only be wanting where fewer rows fit than are missing. After that the rows are as
+    /// Want of memory comes only where fewer rows fit than are missing. After it the rows are as
     /// before.
     pub fn reserve(&mut self, patch: &Patch) -> Result<(), NoMemory>
         ensures start { self.new.start ≡ self.old.start }

@@ -48,7 +48,7 @@ pub fn repair<G: LinkSource, L: Ledger>(
     ensures changes { IfOk result (λ patch. (v : ℕ) (r : Option ℕ) → row_of patch v ≡ Some r
         → r ≢ mark_of region.now.marks.entries v) }
 
-    // Also where memory runs out.
+    // Also at want of memory.
     ensures steps { let seen = G.seen graph.now in
         AreDepths (Old (links_of seen) flips.now) seen.terminal region.now.start
         region.now.max_depth (mark_of region.now.marks.entries)

@@ -9,6 +9,7 @@ pub enum ReplyError {
     /// It is no envelope of a response with one of the results of the protocol, or nests too deep.
     #[error("this is no reply")]
     NotAReply,
+    /// Want of memory.
     #[error("out of memory")]
     NoMemory,
 }

@@ -12,6 +12,7 @@ pub enum Refusal {
     /// What is in the envelope has a defect, of which this code tells.
     #[error("the body is no request")]
     Named(Code),
+    /// Want of memory.
     #[error("out of memory")]
     NoMemory,
 }

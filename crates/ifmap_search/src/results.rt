@@ -108,7 +108,7 @@ pub enum SearchError {
     /// The result has this size, which is greater than the search allows.
     #[error("the result has a size of {size}")]
     TooBig { size: u64 },
-    /// Memory is wanting.
+    /// Want of memory.
     #[error("out of memory")]
     NoMemory,
 }

@@ -242,7 +242,7 @@ module _ (before mid after : SourceAndSink) (now : Replaying) (p : Progress befo
       in
       appends_prefix before.held mid.held after.held (answers p.done) b c text is p.wrote u.wrote))
 
-  -- where the memory ran out, or the line of a fault was not written
+  -- at want of memory, or the line of a fault was not written
   pub part : Keeps mid.held after.held → AnswersPart before after
   part kept =
       taken_and_rest before.left mid.left p.taken (λ bytes. IsPart before after bytes) p.consumed

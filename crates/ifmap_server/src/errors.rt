@@ -15,7 +15,7 @@ pub enum ReplayError {
     ReadFault,
     /// A write failed.
     WriteFault,
-    /// There was no memory.
+    /// Want of memory.
     NoMemory,
 }
 

@@ -38,11 +38,11 @@ struct Common<'a, R, C> {
     clock: &'a C,
 }
 
-/// Serves the doors of 1 to 256 stands, each by a worker in a thread of its own, until each door has
-/// no link left or fails. All workers ask one hall, which begins with an empty core. The random words
-/// of a worker are those of the key's stream whose number is its place. The status is 6 where memory
-/// is wanting for the hall and its passes, and then no door is touched; 7 where a door failed; and
-/// else 0.
+/// Serves the doors of 1 to 256 stands, each by a worker in a thread of its own, until each door
+/// has no link left or fails. All workers ask one hall, which begins with an empty core. The random
+/// words of a worker are those of the key's stream whose number is its place. The status is 6 at
+/// want of memory for the hall and its passes, and then no door is touched; 7 where a door failed;
+/// and else 0.
 pub fn serve<R: Threads + Wait + Sync, D: Door + Send, C: Clock + Sync, G: Gate + Send>(
     rt: &R,
     alloc: Global,

@@ -12,7 +12,7 @@ pub enum BeginError {
     /// live.
     #[error("no serial is left")]
     Counted,
-    /// Memory is wanting.
+    /// Want of memory.
     #[error("out of memory")]
     NoMemory,
 }

@@ -39,8 +39,8 @@ pub struct NewsAndWays {
 /// Tells each subscription that is not skipped what a change of the graph does to it: it takes over
 /// what goes and what comes, and keeps what the draft has. What it is told is what the machine tells.
 ///
-/// The only error is want of memory; each subscription keeps what it kept then. It takes at most the
-/// sum of the steps that each may take, also where memory runs out.
+/// The only error is want of memory; each subscription keeps what it kept then. It takes at most
+/// the sum of the steps that each may take, also at want of memory.
 pub fn tell_change<G: View, D: View, L: Ledger>(
     alloc: Global,
     standing: &mut [Standing],
@@ -67,7 +67,7 @@ pub fn tell_change<G: View, D: View, L: Ledger>(
     ensures ways { IfOk result (λ told. LeadBack standing.old told.ways standing.new) }
     ensures err { OnErr result (AtEach (λ _. StaysRelated KeepsSame) standing.old standing.new) }
 
-    // Also where memory runs out.
+    // Also at want of memory.
     ensures steps { IsWithinEach (view_seen G.rows G.id_at G.links change.now.graph.now)
         (view_seen D.rows D.id_at D.links change.now.draft.now) (zip skipped.now standing.old)
         steps.old steps.new }
@@ -220,7 +220,7 @@ fn tell_where<G: View, D: View, L: Ledger>(
     tell_one(alloc, standing, change, steps)
 }
 
-// Tells one: it takes the change over, and takes it back where no memory is left for the news.
+// Tells one: it takes the change over, and takes it back at want of memory for the news.
 fn tell_one<G: View, D: View, L: Ledger>(
     alloc: Global,
     standing: &mut Standing,

@@ -52,7 +52,7 @@ held_steady old new standing v start was shelves still kept own named = record {
   start = named;
 }
 
--- where memory runs out
+-- at want of memory
 own_alike : (old new : GraphInside) (a : Identifier) (own : ℕ) → new.shelves ≡ old.shelves → new.names.live ≡ old.names.live
     → IsOwn old a own → IsOwn new a own
 own_alike old new a own shelves live held =

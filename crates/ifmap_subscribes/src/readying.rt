@@ -40,7 +40,7 @@ const MOST_OPS: usize = 1 << 30;
 pub enum SubscribeError {
     /// There is no room for a name.
     TooMany,
-    /// Memory runs out.
+    /// Want of memory.
     NoMemory,
 }
 
@@ -68,8 +68,8 @@ pub struct Occasion<'a> {
     pub serial: u64,
 }
 
-/// The operations made ready, from left to right. Where there is no room for a name, or memory runs
-/// out, no number is held for them, and all is as it was but for room.
+/// The operations made ready, from left to right. Where there is no room for a name, or at want of
+/// memory, no number is held for them, and all is as it was but for room.
 pub fn ready_ops<L: Ledger>(
     alloc: Global,
     parts: &mut Parts,
@@ -92,7 +92,7 @@ pub fn ready_ops<L: Ledger>(
     ensures given_up { OnErr result (IsGivenUp parts.old parts.new) }
     ensures ready { IsSoundSoFar scene.now.asking.now parts.new scene.now.pending.now }
 
-    // Also where memory runs out.
+    // Also at want of memory.
     ensures steps { AreOpsWithin (rows_now parts.old.graph) ops.now steps.old steps.new }
 {
     let mut readying = nothing_ready(alloc, parts, scene);

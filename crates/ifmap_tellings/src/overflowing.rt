@@ -22,7 +22,8 @@ use std::alloc::{AllocError as NoMemory, Global};
 use std::collections::BTreeMap;
 
 // Where what a session is to be told makes its queue greater than its limit, one error takes the
-// place of all; and there is room for what it is to be told. Where memory runs out, some may be done.
+// place of all; and there is room for what it is to be told. After want of memory, some may be
+// done.
 pub(crate) fn overflow_all(
     alloc: Global,
     sessions: &mut Sessions,

@@ -18,8 +18,8 @@ use ifmap_standing::{News, Sessions, Standing};
 use std::alloc::{AllocError as NoMemory, Global};
 use std::collections::BTreeMap;
 
-// The items of each subscription's news are queued for its session, after what is pending. Where
-// memory runs out, some may be.
+// The items of each subscription's news are queued for its session, after what is pending. After
+// want of memory, some may be.
 pub(crate) fn queue_all(
     alloc: Global,
     sessions: &Sessions,
@@ -110,7 +110,7 @@ fn begin_telling(
     Ok(())
 }
 
-// More items after those of a telling, with their sizes. Where memory runs out, some may be there.
+// More items after those of a telling, with their sizes. After want of memory, some may be there.
 fn add_items(telling: &mut Telling, items: Many<PollItem>) -> Result<(), NoMemory>
     requires { is_alone (Some telling.old) ≡ true → items ≡ [] }
     ensures added { OnOk result (AddsTo items (Some telling.old) (Some telling.new)) }

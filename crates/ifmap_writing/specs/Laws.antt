@@ -12,7 +12,7 @@ use Rattle.ifmap_writing.specs.RequestElements.{request_bytes}
 abbrev pub WrittenIsReadBack : Type 0
 WrittenIsReadBack = (bytes : List ℕ) (request : Request) → Means bytes (Ok request) → Means (request_bytes request) (Ok request)
 
--- what a reader answers to it is that request, unless memory runs out
+-- what a reader answers to it is that request, unless there is want of memory
 abbrev pub WrittenIsAnswered : Type 0
 WrittenIsAnswered =
     (bytes : List ℕ) (request : Request) → Means bytes (Ok request) → (result : Result Request Refusal)

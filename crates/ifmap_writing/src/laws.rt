@@ -8,9 +8,9 @@ use ifmap_meta::laws::metadata_are_made_of_their_element;
 use ifmap_requests::laws::{bodies_have_one_meaning, bodies_mean_fit_requests};
 
 /// The bytes that are written of a request which some body means are a body that means it, and
-/// `read_request` answers that request to them, unless memory runs out. So do the bytes of each
-/// request mean it that is fit and within the bounds of what can be read; and a request that a body
-/// means is within them.
+/// `read_request` answers that request to them, unless there is want of memory. So do the bytes of
+/// each request mean it that is fit and within the bounds of what can be read; and a request that a
+/// body means is within them.
 pub fn requests_are_read_back()
     ensures written { WrittenIsReadBack }
     ensures answered { WrittenIsAnswered }
