@@ -62,8 +62,8 @@ fn later_moment(one: Moment, other: Moment) -> Moment
 }
 
 impl Core {
-    /// A machine in its opening state. `ttl` is after how many seconds without an accepted request a
-    /// session is expired. It takes no memory.
+    /// A machine in its opening state. `ttl` is after how many seconds without an accepted request
+    /// a session is expired. It takes no memory.
     pub fn new(alloc: Global, ttl: u32) -> Core
         requires { 1 ≤ ttl }
         ensures { result ≡ opening_state ttl }
@@ -79,9 +79,9 @@ impl Core {
         }
     }
 
-    /// Answers an event: the answer and the state after it are those of `step`. The one error is want of
-    /// memory, also told where a result or a queue would have about 2^64 bytes; it leaves the state as
-    /// it was, the moment too.
+    /// Answers an event: the answer and the state after it are those of `step`. The one error is
+    /// want of memory, also told where a result or a queue would have about 2^64 bytes; it leaves
+    /// the state as it was, the moment too.
     pub fn step<L: Ledger>(
         &mut self,
         alloc: Global,
@@ -91,11 +91,12 @@ impl Core {
         ensures answer { IfOk result (λ answer. (self.new, answer) ≡ step self.old event.now) }
         ensures err { OnErr result (self.new ≡ self.old) }
 
-        // A renewal of a live session of the client's takes no memory, nor a poll in it, where no session is
-        // expired.
+        // A renewal of a live session of the client's takes no memory, nor a poll in it, where no
+        // session is expired.
         ensures no_memory { TakesNoMemory self.old event.now → IsOk result }
 
-        // A refusal changes nothing, once the moment is taken in and the expired sessions have ended.
+        // A refusal changes nothing, once the moment is taken in and the expired sessions have
+        // ended.
         ensures refusal { IfOk result (λ answer. (code : Code) → IsRefusal code answer
             → self.new ≡ state_for self.old event.now) }
 
@@ -156,8 +157,8 @@ impl Core {
         parts.graph.identifiers()
     }
 
-    /// Whether a poll that is asked again would still be held, so that asking it changes nothing but
-    /// the moment. It takes no memory.
+    /// Whether a poll that is asked again would still be held, so that asking it changes nothing
+    /// but the moment. It takes no memory.
     pub fn would_hold(&self, event: &Event) -> bool
         ensures exact { IsTrue result ↔ WouldHold self.now event.now }
         ensures held { OnTrue result ((advance event.now.moment self.now, the_answer.Held)

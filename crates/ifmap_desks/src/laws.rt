@@ -28,16 +28,17 @@ pub fn silent_passes_recall()
     ensures { (v : CoreView) → v.mine ≡ [] → v.said ≡ [] → ∥ Recalls v ∥₁ }
 {}
 
-/// The machine answers each event with an answer that it can have: what is held is a poll, what a poll
-/// is told is told to a poll alone, and that an answer was lost is heard, and nothing else is.
+/// The machine answers each event with an answer that it can have: what is held is a poll, what a
+/// poll is told is told to a poll alone, and that an answer was lost is heard, and nothing else is.
 pub fn answers_fit_events()
     ensures { (state : State) (event : Event) → FitsAnswer event (step state event).1 }
 {}
 
 /// The calls of every log of a machine are a legal history, and the machine is run by it. From an
-/// opening state on the clients agree in it: after each poll that is told something or held, what its
-/// client folds of all that it was told since the opening state is, for each subscription that the
-/// session keeps, the fresh result of its search. The same can be seen from any entry of the log on.
+/// opening state on the clients agree in it: after each poll that is told something or held, what
+/// its client folds of all that it was told since the opening state is, for each subscription that
+/// the session keeps, the fresh result of its search. The same can be seen from any entry of the
+/// log on.
 pub fn clients_agree_in_every_log()
     ensures legal { (ttl : ℕ) (log : Log) → Legal ttl (calls_from (opening_state ttl) log) }
     ensures state { (machine : CoreMachine) (log : Log)

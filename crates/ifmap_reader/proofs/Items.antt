@@ -1,4 +1,4 @@
--- Frames by what they make on closing: text and inner elements move from the items that are to come into the frame.
+-- Open elements by what they make on closing: text and inner elements move from the items that are to come into the open element.
 use Rattle.std.proofs.Common.{◌≡◌, ℕ, ◌+◌, suc, Bool, true, false, not, cond, ◌||◌, List, [], ◌∷◌, ◌++◌, length, map, refl, ap, sym, ◌∙◌, subst, append_assoc, length-append, arith}
 use Rattle.std.specs.Prelude.{◌==◌, filter}
 use Rattle.std.specs.List.{list_any}

@@ -84,7 +84,8 @@ impl Region {
         mark_in(&self.marks, number)
     }
 
-    /// Makes room for a patch: afterwards each of its numbers has a row. The marks stay as they are.
+    /// Makes room for a patch: afterwards each of its numbers has a row. The marks stay as they
+    /// are.
     ///
     /// Want of memory comes only where fewer rows fit than are missing. After it the rows are as
     /// before.
@@ -146,8 +147,8 @@ impl Region {
         ensures taken { result ≡ taken_from (mark_of self.old.marks.entries) undo }
         ensures room { HasRoom result self.new.marks.entries }
 
-        // Where the marks are those that `commit_kept` left, they are again those before it, whatever
-        // rows later patches have by then.
+        // Where the marks are those that `commit_kept` left, they are again those before it,
+        // whatever rows later patches have by then.
         ensures back { (patch : List (ℕ × Option ℕ)) (before : ℕ → Option ℕ)
             → IsWayBack undo patch before (mark_of self.old.marks.entries)
             → (v : ℕ) → mark_of self.new.marks.entries v ≡ before v }
@@ -160,8 +161,8 @@ impl Region {
         Patch { rows }
     }
 
-    /// Ends a change that was kept: the marks stay, and the rows of its numbers that have no mark go.
-    /// It takes no memory.
+    /// Ends a change that was kept: the marks stay, and the rows of its numbers that have no mark
+    /// go. It takes no memory.
     pub fn settle(&mut self, undo: RegionUndo)
         ensures start { self.new.start ≡ self.old.start }
         ensures max_depth { self.new.max_depth ≡ self.old.max_depth }
@@ -172,8 +173,8 @@ impl Region {
         sweep(&mut self.marks, &undo.rows);
     }
 
-    /// Gives up a patch for which room was made, and which is not made: the marks stay, and the rows
-    /// of its numbers that have no mark go. It takes no memory.
+    /// Gives up a patch for which room was made, and which is not made: the marks stay, and the
+    /// rows of its numbers that have no mark go. It takes no memory.
     pub fn forget(&mut self, patch: Patch)
         ensures start { self.new.start ≡ self.old.start }
         ensures max_depth { self.new.max_depth ≡ self.old.max_depth }

@@ -65,7 +65,7 @@ pub(crate) fn begins(
     }
 }
 
-// The serial of a client's session; nothing also where there was no memory for the name.
+// The serial of a client's session; nothing also at want of memory for the name.
 pub(crate) fn serial_for(alloc: Global, sessions: &Sessions, name: &str) -> Option<u64>
     ensures { IfSome result (λ serial. IsLive serial sessions.now.live) }
 {
