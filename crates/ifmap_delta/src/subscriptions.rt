@@ -67,8 +67,8 @@ impl Model for SubUndo {
 }
 
 impl Subscription {
-    /// Makes room for what a change does: afterwards each number of its patch has a row. The marks and
-    /// the size stay as they are.
+    /// Makes room for what a change does: afterwards each number of its patch has a row. The marks
+    /// and the size stay as they are.
     ///
     /// After want of memory the rows are as before.
     pub fn reserve(&mut self, moved: &Moved) -> Result<(), NoMemory>
@@ -85,8 +85,8 @@ impl Subscription {
         self.region.reserve(&moved.patch)
     }
 
-    /// Takes over a patch and a size, and leaves no row of the patch's numbers without a mark. It takes
-    /// no memory, and needs the room of `reserve`.
+    /// Takes over a patch and a size, and leaves no row of the patch's numbers without a mark. It
+    /// takes no memory, and needs the room of `reserve`.
     pub fn commit(&mut self, patch: Patch, new_size: u64)
         requires { HasRoom patch self.old.region.marks.entries }
         ensures search { HasSameSearch self.old self.new }
@@ -99,7 +99,8 @@ impl Subscription {
             → is_some (row_of self.new.region.marks.entries v)
             ≡ is_some (row_of self.old.region.marks.entries v) }
 
-        // Where the patch and the size are those of a change, the subscription keeps what the draft has.
+        // Where the patch and the size are those of a change, the subscription keeps what the draft
+        // has.
         ensures kept { (g : ViewSeen) → WouldKeep g self.old patch new_size
             → IsUpToDate g self.new }
     {
@@ -126,8 +127,8 @@ impl Subscription {
         SubUndo { region, size }
     }
 
-    /// Takes a change back and gives its patch back. All rows stay. It takes no memory, and needs the
-    /// rows of the patch's numbers.
+    /// Takes a change back and gives its patch back. All rows stay. It takes no memory, and needs
+    /// the rows of the patch's numbers.
     pub fn undo(&mut self, undo: SubUndo) -> Patch
         requires { HasRoom undo.0 self.old.region.marks.entries }
         ensures search { HasSameSearch self.old self.new }
@@ -137,8 +138,8 @@ impl Subscription {
         ensures taken { result ≡ taken_from (mark_of self.old.region.marks.entries) undo.0 }
         ensures room { HasRoom result self.new.region.marks.entries }
 
-        // Where the marks are those that `commit_kept` left, they are again those before it, whatever
-        // rows later patches have by then.
+        // Where the marks are those that `commit_kept` left, they are again those before it,
+        // whatever rows later patches have by then.
         ensures back { (patch : List (ℕ × Option ℕ)) (before : ℕ → Option ℕ)
             → IsWayBack undo.0 patch before (mark_of self.old.region.marks.entries)
             → (v : ℕ) → mark_of self.new.region.marks.entries v ≡ before v }
@@ -150,8 +151,8 @@ impl Subscription {
         self.region.undo(undo.region)
     }
 
-    /// Ends a change that was kept: the marks and the size stay, and the rows of its numbers that have
-    /// no mark go. It takes no memory.
+    /// Ends a change that was kept: the marks and the size stay, and the rows of its numbers that
+    /// have no mark go. It takes no memory.
     pub fn settle(&mut self, undo: SubUndo)
         ensures search { HasSameSearch self.old self.new }
         ensures size { self.new.size ≡ self.old.size }
@@ -163,8 +164,8 @@ impl Subscription {
         self.region.settle(undo.region);
     }
 
-    /// Gives up a patch for which room was made, and which is not made: the marks and the size stay, and
-    /// the rows of its numbers that have no mark go. It takes no memory.
+    /// Gives up a patch for which room was made, and which is not made: the marks and the size
+    /// stay, and the rows of its numbers that have no mark go. It takes no memory.
     pub fn forget(&mut self, patch: Patch)
         ensures search { HasSameSearch self.old self.new }
         ensures size { self.new.size ≡ self.old.size }

@@ -11,13 +11,13 @@ pub trait Desk {
     type Home;
 
     /// The calls that were done, where they are told; how many turns it took, where it counts them:
-    /// one for each ask; how many of its answers were `Held`, and how many `Spent`; and, which no call
-    /// changes, what it stands in and the name of what it borrows.
+    /// one for each ask; how many of its answers were `Held`, and how many `Spent`; and, which no
+    /// call changes, what it stands in and the name of what it borrows.
     ghost seen: { Self → DeskSeen Self.Home };
 
     /// Asks an event of at most 80,001,000 bytes of weight. Every answer but `Done` hands the event
-    /// back. What is held is a poll, and what a poll is told is told to a poll alone; `Heard` answers
-    /// the event that tells of a lost answer, and nothing else.
+    /// back. What is held is a poll, and what a poll is told is told to a poll alone; `Heard`
+    /// answers the event that tells of a lost answer, and nothing else.
     fn ask(&mut self, event: Event) -> Asked<Event, Answer>
         requires light { weight event ≤ greatest_weight }
         ensures tells { DeskTakesTurns (seen self.old) (seen self.new)

@@ -7,8 +7,8 @@ use std::sync::ledger::Ledger;
 
 /// The links of each number, by their places.
 pub trait LinkSource {
-    /// How many links each number has, those that do not match among them; the other end of its link
-    /// at a place, where that link matches; and whether no walk goes on from it.
+    /// How many links each number has, those that do not match among them; the other end of its
+    /// link at a place, where that link matches; and whether no walk goes on from it.
     ghost seen: { Self → GraphSeen };
 
     /// How many links the number has, those that do not match among them.
