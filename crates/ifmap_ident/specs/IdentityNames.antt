@@ -20,12 +20,16 @@ without_last_dots (b ∷ bs) = if list_all (λ c. c == byte ".") (b ∷ bs) then
 abbrev pub domain_name : List ℕ → List ℕ
 domain_name text = str_to_ascii_lowercase (without_last_dots text)
 
--- the text spells an element that nests at most 64 deep, and the name is the canonical bytes of it: an extended identifier
+-- the most levels of the element that a name spells
+abbrev pub name_levels : ℕ
+name_levels = 64
+
+-- the text spells an element of no more levels, and the name is the canonical bytes of it: an extended identifier
 -- (IF-MAP binding for SOAP, version 2.2, section 3.2.3)
 pub record IsSpelledName (text name : List ℕ) : Type 0 where
   pub reading : Reading
   pub spelled : Spells text reading
-  pub shallow : nesting reading.root ≤ 64
+  pub shallow : nesting reading.root ≤ name_levels
   pub canonical : name ≡ canonical_bytes reading.root
 
 -- in what form a type keeps its names; the second text is what the type `other` is defined as

@@ -20,8 +20,8 @@ pub(crate) enum NameForm {
     Spelled,
 }
 
-// How deep the element of an extended identifier may nest.
-const DEPTH: u32 = 64;
+// The most levels of the element that a name spells.
+const NAME_LEVELS: u32 = 64;
 
 // The name in its form; `None` where it has none, or is empty.
 pub(crate) fn keep_name(
@@ -66,7 +66,7 @@ fn without_last_dots(text: &str) -> &str
 fn spelled_name(alloc: Global, text: &Text) -> Result<Option<Text>, NoMemory>
     ensures { IsFound (λ name. IsSpelledName text.now name × (name ≢ [])) result }
 {
-    match read(alloc, text.as_bytes(), DEPTH) {
+    match read(alloc, text.as_bytes(), NAME_LEVELS) {
         Ok(reading) => Ok(Some(canonical_text(alloc, &reading.root)?)),
         Err(ReadError::NoMemory) => Err(NoMemory),
         Err(ReadError::Unreadable { .. }) => Ok(None),

@@ -9,9 +9,13 @@ use Rattle.ifmap_elem.specs.declared.elements.Name.{Name}
 use Rattle.ifmap_meta.specs.Cardinality.{is_single}
 use Rattle.ifmap_meta.specs.Stamps.{without_stamps}
 
--- a text and its end, which is no byte
+-- what stands after each text: the first number that is no byte
+abbrev pub end_mark : ℕ
+end_mark = 256
+
+-- a text and its end
 abbrev pub end_part : List ℕ → List ℕ
-end_part text = text ++ 256 ∷ []
+end_part text = text ++ end_mark ∷ []
 
 abbrev pub name_parts : Name → List ℕ
 name_parts n = end_part n.space ++ end_part n.local

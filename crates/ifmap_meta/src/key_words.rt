@@ -96,15 +96,15 @@ fn mix_child(word: u64, child: &Child) -> u64
     }
 }
 
-// What no byte is: it stands after each text.
-const END: u64 = 256;
+// What stands after each text: the first number that is no byte.
+const END_MARK: u64 = 256;
 
 // Mixes in a text with its end.
 #[tactic(auto, using(crate::specs::laws::KeyWordLaws::mix_append))]
 pub(crate) fn mix_text(word: u64, text: &[u8]) -> u64
     ensures { result ≡ mix_all word (end_part text.now) }
 {
-    mix(mix_bytes(word, text), END)
+    mix(mix_bytes(word, text), END_MARK)
 }
 
 #[tactic(auto, using(crate::specs::laws::KeyWordLaws::mix_append))]
