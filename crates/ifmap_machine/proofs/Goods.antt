@@ -1,16 +1,14 @@
 -- Graphs whose attachments are whole, and the results of searches in them.
 -- Entries of such graphs are told apart by bytes (`entries_told`), results rise (`fresh_rises`), and so one result and what went and
 -- came make the next (`results_fold`, `results_begin`). What the crates below state of bytes and differences comes in as premises.
-use Rattle.std.proofs.Common.{◌≡◌, refl, sym, ◌∙◌, ap, subst, ℕ, true, List, [], ◌∷◌, Some, ◌↔◌}
+use Rattle.std.proofs.Common.{◌≡◌, refl, sym, ◌∙◌, ap, subst, ℕ, true, List, [], ◌∷◌, Some}
 use Rattle.std.proofs.lemmas.Bool.{and_parts}
 use Rattle.std.specs.List.{IsDistinct, filter}
 use Rattle.std.specs.List.Sorted.{IsStrictlySortedBy}
 use Rattle.ifmap_folds.specs.Differences.{difference, entry_bytes, entry_order, same_entry}
 use Rattle.ifmap_folds.specs.Folds.{Sets, fold_items, with_entries}
-use Rattle.ifmap_elem.specs.Arranged.{IsSame}
 use Rattle.ifmap_elem.specs.Canonical.{canonical_bytes}
-use Rattle.ifmap_elem.specs.declared.elements.Element.{Element}
-use Rattle.ifmap_elem.specs.Fit.{IsFit}
+use Rattle.ifmap_elem.specs.laws.CanonicalSpells.{same_when_alike}
 use Rattle.ifmap_folds.specs.ifmap_fresh.Fresh.{fresh, is_found}
 use Rattle.ifmap_ident.specs.Items.{IsCanonItem}
 use Rattle.ifmap_ident.specs.SameLaws.{BytesTellIdentifiers, same_item_is}
@@ -44,11 +42,7 @@ empty_rises = tt
 
 -- ---- entries are told apart by bytes
 
-module _ (tells : BytesTellIdentifiers) (tell_elements : (one other : Element) → IsFit one → IsFit other
-    → ((canonical_bytes one ≡ canonical_bytes other) ↔ IsSame one other)) where
-  elements_told : (one other : Element) → IsFit one → IsFit other → canonical_bytes one ≡ canonical_bytes other → IsSame one other
-  elements_told one other f g same = (tell_elements one other f g).0 same
-
+module _ (tells : BytesTellIdentifiers) where
   attachments_told : (a b : Attachment) → IsCanonItem a.item → IsCanonItem b.item → IsWhole a.stored → IsWhole b.stored
       → same_entry (row_entry a) (row_entry b) ≡ true → row_entry a ≡ row_entry b
   unfolding entry_bytes
@@ -57,7 +51,7 @@ module _ (tells : BytesTellIdentifiers) (tell_elements : (one other : Element) �
       let items = same_item_is tells a.item b.item ca.identifiers cb.identifiers parts.0 in
       let bytes : canonical_bytes a.stored.element ≡ canonical_bytes b.stored.element =
       text_is (canonical_bytes a.stored.element) (canonical_bytes b.stored.element) parts.1 in
-      let arranged = elements_told a.stored.element b.stored.element wa.sent.fit wb.sent.fit bytes in
+      let arranged = same_when_alike a.stored.element b.stored.element wa.sent.fit wb.sent.fit bytes in
       let elements : a.stored.element ≡ b.stored.element = sym wa.sent.arranged ∙ arranged ∙ wb.sent.arranged in
       ap (λ i. record { item = i; element = a.stored.element }) items ∙ ap (λ e. record { item = b.item; element = e }) elements
 

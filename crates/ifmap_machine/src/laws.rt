@@ -14,7 +14,6 @@ ghost use Rattle.ifmap_folds.specs.ifmap_plans.Plans.{AreWhole};
 ghost use Rattle.ifmap_session.specs.Sessions.{most_sessions};
 ghost use Rattle.ifmap_publish.specs.ifmap_view.Attachments.{IsGraph};
 
-use ifmap_elem::laws::canonical_bytes_tell_elements_apart;
 use ifmap_folds::laws::differences_make_the_next_result;
 use ifmap_ident::laws::bytes_tell_identifiers_apart;
 use ifmap_publish::laws::{publishing_keeps_graphs, retracting_keeps_graphs};
@@ -64,7 +63,6 @@ pub fn clients_fold_fresh_results()
     publishing_keeps_graphs();
     retracting_keeps_graphs();
     bytes_tell_identifiers_apart();
-    canonical_bytes_tell_elements_apart();
     differences_make_the_next_result();
 }
 
@@ -80,7 +78,6 @@ pub fn clients_fold_fresh_results_from_any_entry()
     publishing_keeps_graphs();
     retracting_keeps_graphs();
     bytes_tell_identifiers_apart();
-    canonical_bytes_tell_elements_apart();
     differences_make_the_next_result();
 }
 
