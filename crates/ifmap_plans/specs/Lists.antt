@@ -16,9 +16,13 @@ pub record IsList (list : List Stored) : Type 0 where
   pub rising : IsStrictlySortedBy stored_order list
   pub keys : IsDistinct same_key list
 
+-- one of its canonical bytes is among these
+abbrev pub is_among : List Stored → Stored → Bool
+is_among list s = list_any (λ r. eq_by_cmp stored_order r s) list
+
 -- without what has the canonical bytes of one of these
 abbrev pub list_without : List Stored → List Stored → List Stored
-list_without removed list = filter (λ s. not (list_any (λ r. eq_by_cmp stored_order r s) removed)) list
+list_without removed list = filter (λ s. not (is_among removed s)) list
 
 -- with each of these in its place, one after the other
 abbrev pub put_each : List Stored → List Stored → List Stored

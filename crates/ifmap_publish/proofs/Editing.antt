@@ -20,11 +20,11 @@ use Rattle.ifmap_meta.specs.Keys.{HaveOneKey, same_key}
 use Rattle.ifmap_meta.specs.Stamps.{is_stamp, stamps_of}
 use Rattle.ifmap_meta.specs.Whole.{IsWhole}
 use Rattle.ifmap_meta.specs.laws.KeyLaws.{keys_told}
-use Rattle.ifmap_rows.specs.ifmap_plans.Lists.{stored_difference, next_on, put_each, list_without}
+use Rattle.ifmap_rows.specs.ifmap_plans.Lists.{is_among, list_without, next_on, put_each, stored_difference}
 use Rattle.ifmap_rows.specs.ifmap_plans.Placing.{put}
 use Rattle.ifmap_rows.specs.ifmap_plans.laws.KeyLaws.{stored_equiv}
 use Rattle.ifmap_view.specs.Attachments.{stored_bytes, stored_order}
-use Rattle.ifmap_publish.specs.Working.{EditMakes, IsEdit, IsSound, is_among, list_by}
+use Rattle.ifmap_publish.specs.Working.{EditMakes, IsEdit, IsSound, list_by}
 use Rattle.ifmap_publish.specs.declared.edits.Edit.{Edit}
 use Rattle.ifmap_publish.proofs.Attaching.{sound_filter}
 use Rattle.ifmap_publish.proofs.Rising.{among_filter, moved, parted, put_back, put_filtered, put_unfiltered}

@@ -27,13 +27,13 @@ use Rattle.ifmap_lemmas.specs.Stepping.{member_holds}
 use Rattle.ifmap_meta.specs.declared.stored.Stored.{Stored}
 use Rattle.ifmap_meta.specs.Keys.{HaveOneKey, same_key}
 use Rattle.ifmap_meta.specs.Whole.{IsWhole}
-use Rattle.ifmap_rows.specs.ifmap_plans.Lists.{next_on, put_each, list_without}
+use Rattle.ifmap_rows.specs.ifmap_plans.Lists.{is_among, list_without, next_on, put_each}
 use Rattle.ifmap_rows.specs.ifmap_plans.Placing.{put}
 use Rattle.ifmap_rows.specs.ifmap_plans.laws.KeyLaws.{stored_equiv, stored_total}
 use Rattle.ifmap_rows.specs.laws.JoiningLaws.{each_in, in_each, rising_each}
 use Rattle.ifmap_view.specs.Attachments.{stored_order}
 use Rattle.ifmap_publish.specs.OnItems.{attach_all, attach_on}
-use Rattle.ifmap_publish.specs.Working.{AreKeyed, EditMakes, IsSound, is_among, is_keyed, over_keys}
+use Rattle.ifmap_publish.specs.Working.{AreKeyed, EditMakes, IsSound, is_keyed, over_keys}
 use Rattle.ifmap_publish.specs.declared.edits.Edit.{Edit}
 use Rattle.ifmap_publish.proofs.Attaching.{sound_attached}
 use Rattle.ifmap_publish.proofs.Editing.{apart_of_keys, key_not_told, key_told, makes_less, makes_more, tied_key}

@@ -12,9 +12,9 @@ use Rattle.ifmap_lemmas.specs.Filters.{all_filter, filter_shorter}
 use Rattle.ifmap_lemmas.specs.Having.{filter_has}
 use Rattle.ifmap_lemmas.specs.Stepping.{kept_more, passed_more}
 use Rattle.ifmap_meta.specs.declared.stored.Stored.{Stored}
-use Rattle.ifmap_rows.specs.ifmap_plans.Lists.{put_each}
+use Rattle.ifmap_rows.specs.ifmap_plans.Lists.{is_among, put_each}
 use Rattle.ifmap_view.specs.Attachments.{stored_order}
-use Rattle.ifmap_publish.specs.Working.{PassesOneStored, after_like, is_among}
+use Rattle.ifmap_publish.specs.Working.{PassesOneStored, after_like}
 use Rattle.ifmap_publish.proofs.Differing.{AllAbove, itself, sorted_first, turned}
 use Rattle.ifmap_publish.proofs.Gathering.{put_found}
 use Rattle.ifmap_publish.proofs.Passing.{sorted_drop}

@@ -23,12 +23,11 @@ use Rattle.ifmap_lemmas.specs.Orderings.{greater_turned, is_greater, less_differ
 use Rattle.ifmap_lemmas.specs.Rising.{tied_same}
 use Rattle.ifmap_meta.specs.declared.stored.Stored.{Stored}
 use Rattle.ifmap_meta.specs.Keys.{same_key}
-use Rattle.ifmap_rows.specs.ifmap_plans.Lists.{stored_difference, put_each, same_life, same_stored, list_without}
+use Rattle.ifmap_rows.specs.ifmap_plans.Lists.{is_among, list_without, put_each, same_life, same_stored, stored_difference}
 use Rattle.ifmap_rows.specs.ifmap_plans.Placing.{put}
 use Rattle.ifmap_rows.specs.ifmap_plans.laws.KeyLaws.{stored_equiv, stored_total}
 use Rattle.ifmap_rows.specs.ifmap_plans.laws.PlacingLaws.{put_less}
 use Rattle.ifmap_view.specs.Attachments.{stored_bytes, stored_order}
-use Rattle.ifmap_publish.specs.Working.{is_among}
 use Rattle.ifmap_publish.proofs.Differing.{AllAbove, itself, none_tied, put_below, put_past, sorted_first, turned}
 use Rattle.ifmap_publish.proofs.Same.{same_itself}
 

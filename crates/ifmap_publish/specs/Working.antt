@@ -10,7 +10,7 @@ use Rattle.ifmap_meta.specs.declared.stored.Stored.{Stored}
 use Rattle.ifmap_meta.specs.Keys.{same_key}
 use Rattle.ifmap_meta.specs.Whole.{IsWhole}
 use Rattle.ifmap_rows.specs.ifmap_plans.declared.plans.ItemChange.{ItemChange}
-use Rattle.ifmap_rows.specs.ifmap_plans.Lists.{IsList, stored_difference, next_on, put_each, list_without}
+use Rattle.ifmap_rows.specs.ifmap_plans.Lists.{IsList, is_among, list_without, next_on, put_each, stored_difference}
 use Rattle.ifmap_view.specs.declared.attachments.Attachment.{Attachment}
 use Rattle.ifmap_view.specs.Attachments.{stored_order}
 use Rattle.ifmap_view.specs.Rows.{stored_on}
@@ -20,10 +20,6 @@ use Rattle.ifmap_publish.specs.declared.edits.Edit.{Edit}
 pub record IsSound (list : List Stored) : Type 0 where
   pub keyed : IsList list
   pub whole : AllByRecursion IsWhole list
-
--- one of its canonical bytes is among these
-abbrev pub is_among : List Stored → Stored → Bool
-is_among list s = list_any (λ r. eq_by_cmp stored_order r s) list
 
 -- one of these has its key
 abbrev pub is_keyed : List Stored → Stored → Bool

@@ -4,11 +4,12 @@ ghost use Rattle.std.specs.List.{AllByRecursion, filter};
 ghost use Rattle.std.specs.List.Sorted.{IsStrictlySortedBy};
 ghost use Rattle.ifmap_requests.specs.ifmap_filter.Meets.{meets_optional};
 ghost use Rattle.ifmap_meta.specs.Whole.{IsWhole};
+ghost use Rattle.ifmap_rows.specs.ifmap_plans.Lists.{is_among};
 ghost use Rattle.ifmap_rows.specs.ifmap_plans.Plans.{AreWhole};
 ghost use Rattle.ifmap_view.specs.Attachments.{IsGraph, stored_order};
 ghost use Rattle.ifmap_view.specs.Rows.{stored_on};
 ghost use Rattle.ifmap_publish.specs.OnItems.{attach_all, delete_on};
-ghost use Rattle.ifmap_publish.specs.Working.{AreKeyed, EditMakes, IsEdit, IsSound, PassesOneStored, after_like, is_among, is_keyed, list_by, over_keys};
+ghost use Rattle.ifmap_publish.specs.Working.{AreKeyed, EditMakes, IsEdit, IsSound, PassesOneStored, after_like, is_keyed, list_by, over_keys};
 
 use ifmap_elem::Many;
 use ifmap_ident::Item;

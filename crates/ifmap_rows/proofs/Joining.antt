@@ -24,7 +24,7 @@ use Rattle.ifmap_plans.specs.Lists.{list_without, put_each}
 use Rattle.ifmap_plans.specs.laws.KeyLaws.{stored_total}
 use Rattle.ifmap_plans.specs.ifmap_view.Attachments.{stored_order}
 use Rattle.ifmap_rows.specs.Indexed.{IsIndexed, IsJoined, word_order}
-use Rattle.ifmap_rows.specs.laws.JoiningLaws.{each_in, in_each, rising_each, stays}
+use Rattle.ifmap_rows.specs.laws.JoiningLaws.{each_in, in_each, is_not_among, rising_each}
 use Rattle.ifmap_rows.proofs.Keeping.{words_total, worded_equal}
 
 module _ (X : Type 0) (C D : X → X → Ordering) (finer : (a s : X) → is_eq (D a s) ≡ true → is_eq (C a s) ≡ true) where
@@ -73,14 +73,14 @@ module _ (list added next : List Stored) (up : IsStrictlySortedBy stored_order a
       IsDistinct-IsPermutation (eq_by_cmp D) ((eq_by_cmp_equiv o).symm) (list_without added list ++ added) next made
       (distinct_joined (eq_by_cmp D) (list_without added list) added w (apart Stored stored_order D finer added up)
       (λ s h. stays_apart Stored stored_order D finer stored_total s added
-      (not-true (list_any (λ r. eq_by_cmp stored_order r s) added) (filter_has (stays added) list s h).1)))
+      (not-true (list_any (λ r. eq_by_cmp stored_order r s) added) (filter_has (is_not_among added) list s h).1)))
 
   pub rows_joined : IsStrictlySortedBy stored_order list → IsSortedBy (λ x y. is_lt (stored_order x y)) next → next ≡ put_each added list
   rows_joined rows sorted =
       let same : (a s : Stored) → is_eq (stored_order a s) ≡ true → is_eq (stored_order a s) ≡ true = λ a s e. e in
       let rises = rises_apart stored_order stored_total next sorted (kept_apart stored_order stored_total same
       (apart Stored stored_order stored_order same (list_without added list)
-      (IsStrictlySortedBy-filter stored_order (stays added) list rows))) in
+      (IsStrictlySortedBy-filter stored_order (is_not_among added) list rows))) in
       rising_same stored_order stored_total next (put_each added list) rises (rising_each added list rows)
       (λ s h. in_each added list s up (into s h)) (λ s h. back s (each_in added list s h))
 
@@ -91,7 +91,7 @@ module _ (list added next : List Stored) (up : IsStrictlySortedBy stored_order a
         worded = rises_apart word_order words_total next sorted (kept_apart word_order words_total
             (λ a s e. ap is_eq (worded_equal a s e))
             (apart Stored word_order word_order same (list_without added list)
-            (IsStrictlySortedBy-filter word_order (stays added) list worded)));
+            (IsStrictlySortedBy-filter word_order (is_not_among added) list worded)));
         made = made;
       }
 
@@ -112,32 +112,32 @@ pub put_again : (added rows : List Stored) → IsStrictlySortedBy stored_order a
     → put_each added (list_without added rows) ≡ put_each added rows
 put_again added rows up rising =
     rising_same stored_order stored_total (put_each added (list_without added rows)) (put_each added rows)
-    (rising_each added (list_without added rows) (IsStrictlySortedBy-filter stored_order (stays added) rows rising))
+    (rising_each added (list_without added rows) (IsStrictlySortedBy-filter stored_order (is_not_among added) rows rising))
     (rising_each added rows rising)
     (λ s h. in_each added rows s up (elim (each_in added (list_without added rows) s h) [
       | inl k ↦ inl k
-      | inr k ↦ inr (subst (λ l. Has l s) (filter_again (stays added) rows) k)
+      | inr k ↦ inr (subst (λ l. Has l s) (filter_again (is_not_among added) rows) k)
     ]))
     (λ s h. in_each added (list_without added rows) s up (elim (each_in added rows s h) [
       | inl k ↦ inl k
-      | inr k ↦ inr (subst (λ l. Has l s) (sym (filter_again (stays added) rows)) k)
+      | inr k ↦ inr (subst (λ l. Has l s) (sym (filter_again (is_not_among added) rows)) k)
     ]))
 
 pub joined_again : (index added next : List Stored) → IsJoined (list_without added index) added next → IsJoined index added next
 joined_again index added next j = record {
   worded = j.worded;
-  made = subst (λ l. IsPermutation (l ++ added) next) (filter_again (stays added) index) j.made;
+  made = subst (λ l. IsPermutation (l ++ added) next) (filter_again (is_not_among added) index) j.made;
 }
 
 -- the index has none of the same bytes either
 pub index_apart : (rows index added : List Stored) → IsIndexed rows index → list_without added rows ≡ rows
     → list_without added index ≡ index
-index_apart rows index added is apart = filter_all (stays added) index (each index (λ s h. h))
+index_apart rows index added is apart = filter_all (is_not_among added) index (each index (λ s h. h))
   where
-    each : (xs : List Stored) → ((s : Stored) → Has xs s → Has index s) → AllByRecursion (λ s. stays added s ≡ true) xs
+    each : (xs : List Stored) → ((s : Stored) → Has xs s → Has index s) → AllByRecursion (λ s. is_not_among added s ≡ true) xs
     each [] f = tt
     each (x ∷ xs) f = (
-      (filter_has (stays added) rows x (subst (λ l. Has l x) (sym apart) (is.there x (f x (inl refl))))).1,
+      (filter_has (is_not_among added) rows x (subst (λ l. Has l x) (sym apart) (is.there x (f x (inl refl))))).1,
       each xs (λ s h. f s (inr h)),
     )
 
@@ -149,10 +149,10 @@ joined_keeps rows index added next is up j = record {
   worded = j.worded;
   there = λ s h. in_each added rows s up (elim (into index added next up j.made s h) [
     | inl k ↦ inl k
-    | inr k ↦ inr (let p = filter_has (stays added) index s k in has_filter (stays added) rows s (is.there s p.0) p.1)
+    | inr k ↦ inr (let p = filter_has (is_not_among added) index s k in has_filter (is_not_among added) rows s (is.there s p.0) p.1)
   ]);
   back = λ s h. back index added next up j.made s (elim (each_in added rows s h) [
     | inl k ↦ inl k
-    | inr k ↦ inr (let p = filter_has (stays added) rows s k in has_filter (stays added) index s (is.back s p.0) p.1)
+    | inr k ↦ inr (let p = filter_has (is_not_among added) rows s k in has_filter (is_not_among added) index s (is.back s p.0) p.1)
   ]);
 }

@@ -2,7 +2,8 @@ use Rattle.std.proofs.Common.{◌∙◌, ◌||◌, subst, sym}
 use Rattle.std.specs.List.{AllByRecursion, filter}
 use Rattle.ifmap_meta.specs.Whole.{IsWhole}
 use Rattle.ifmap_view.specs.Rows.{stored_on}
-use Rattle.ifmap_publish.specs.Working.{IsSound, is_among, is_keyed, list_by, over_keys}
+use Rattle.ifmap_rows.specs.ifmap_plans.Lists.{is_among}
+use Rattle.ifmap_publish.specs.Working.{IsSound, is_keyed, list_by, over_keys}
 use Rattle.ifmap_publish.specs.declared.edits.Edit.{Edit}
 use Rattle.ifmap_publish.proofs.Editing.{put_sound}
 use Rattle.ifmap_publish.proofs.Gathering.{last_sound, makes_all}

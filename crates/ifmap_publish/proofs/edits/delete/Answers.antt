@@ -3,10 +3,10 @@ use Rattle.std.specs.List.{filter}
 use Rattle.std.specs.List.Sorted.{IsStrictlySortedBy}
 use Rattle.ifmap_requests.specs.ifmap_filter.Meets.{meets_optional}
 use Rattle.ifmap_meta.specs.declared.stored.Stored.{Stored}
-use Rattle.ifmap_rows.specs.ifmap_plans.Lists.{next_on, put_each}
+use Rattle.ifmap_rows.specs.ifmap_plans.Lists.{is_among, next_on, put_each}
 use Rattle.ifmap_view.specs.Attachments.{stored_order}
 use Rattle.ifmap_view.specs.Rows.{stored_on}
-use Rattle.ifmap_publish.specs.Working.{is_among, list_by}
+use Rattle.ifmap_publish.specs.Working.{list_by}
 use Rattle.ifmap_publish.specs.declared.edits.Edit.{Edit}
 use Rattle.ifmap_publish.proofs.Editing.{makes_less, passed_out, put_sound, taken_rises}
 use Rattle.ifmap_publish.proofs.Graphs.{sound_on}

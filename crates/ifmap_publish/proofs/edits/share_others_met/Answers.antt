@@ -2,7 +2,7 @@ use Rattle.std.proofs.Common.{◌∙◌, ◌&&◌, ap, arith, not}
 use Rattle.std.proofs.lemmas.List.{take_all}
 use Rattle.std.specs.List.{filter}
 use Rattle.ifmap_requests.specs.ifmap_filter.Meets.{meets_optional}
-use Rattle.ifmap_publish.specs.Working.{is_among}
+use Rattle.ifmap_rows.specs.ifmap_plans.Lists.{is_among}
 use Rattle.ifmap_publish.proofs.Meeting.{all_taken, row_passed}
 use Rattle.ifmap_publish.proofs.edits.share_others_met.Goals as goal
 

@@ -1,7 +1,7 @@
 use Rattle.std.proofs.Common.{◌≡◌, ◌&&◌, drop, not, take}
 use Rattle.std.specs.List.{filter}
 use Rattle.ifmap_requests.specs.ifmap_filter.Meets.{meets_optional}
-use Rattle.ifmap_publish.specs.Working.{is_among}
+use Rattle.ifmap_rows.specs.ifmap_plans.Lists.{is_among}
 use Rattle.ifmap_publish.proofs.edits.share_others_met.Given as goal
 
 -- what is taken of those that follow, and what was met

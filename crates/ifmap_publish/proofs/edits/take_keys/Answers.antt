@@ -3,10 +3,10 @@ use Rattle.std.proofs.lemmas.List.Kept.{IsStrictlySortedBy-filter}
 use Rattle.std.proofs.lemmas.Result.{on_ok_weaker}
 use Rattle.std.specs.List.{filter}
 use Rattle.std.specs.List.Sorted.{IsStrictlySortedBy}
-use Rattle.ifmap_rows.specs.ifmap_plans.Lists.{put_each}
+use Rattle.ifmap_rows.specs.ifmap_plans.Lists.{is_among, put_each}
 use Rattle.ifmap_view.specs.Attachments.{stored_order}
 use Rattle.ifmap_view.specs.Rows.{stored_on}
-use Rattle.ifmap_publish.specs.Working.{is_among, is_keyed}
+use Rattle.ifmap_publish.specs.Working.{is_keyed}
 use Rattle.ifmap_publish.proofs.Gathering.{keys_taken}
 use Rattle.ifmap_publish.proofs.Graphs.{sound_on}
 use Rattle.ifmap_publish.proofs.edits.take_keys.Goals as goal
