@@ -17,7 +17,7 @@ use Rattle.ifmap_elem.specs.declared.readings.Reading.{Reading}
 use Rattle.ifmap_elem.specs.declared.tokens.Tag.{Tag}
 use Rattle.ifmap_elem.specs.declared.tokens.Token.{Token}
 use Rattle.ifmap_elem.specs.Document as piece
-use Rattle.ifmap_elem.specs.Document.{Pieces, Nothing, chain_pieces, ContentItem, Inner, Run, is_inner, put_before, join_runs, is_child, children_among, child_of, IsElement, AreItems, IsMargin}
+use Rattle.ifmap_elem.specs.Document.{Pieces, Nothing, chain_pieces, ContentItem, Inner, Run, is_inner, put_before, join_runs, is_child, children_among, child_of, IsElement, AreItems}
 use Rattle.ifmap_elem.specs.InScope.{IsElementPiece, IsChildAt, LeadsTo, NamesElementAt, ResolvedIn, NamedHaveScopes, ScopesAreNamed}
 use Rattle.ifmap_elem.specs.Scopes.{Scope, root_scope, scope_within, NamesElement}
 use Rattle.ifmap_elem.specs.Spells.{Spells}
@@ -25,7 +25,7 @@ use Rattle.ifmap_elem.specs.laws.ArrangedLaws.{one_element, out_element}
 use Rattle.ifmap_elem.specs.laws.FitLaws.{out_text}
 use Rattle.ifmap_elem.specs.laws.OneReading.{one_lexing, one_heading, one_content}
 use Rattle.ifmap_elem.specs.laws.Resolving.{child_there, root_there, after_margin, joined_both}
-use Rattle.ifmap_elem.specs.laws.Roots.{BeginsWithRoot, root_begins}
+use Rattle.ifmap_elem.specs.laws.Roots.{BeginsWithRoot, root_begins, root_of}
 
 -- from a child element to its item
 
@@ -383,70 +383,6 @@ named_there (index ∷ path) outer tag inside items root declared scope h m l =
     in (n.0, (t.element, at, n.1), n.2)
 
 -- from the bytes
-
--- the root of pieces between margins
-pub record HasRoot (pieces : Pieces) (r : Reading) : Type 0 where
-  pub before : Pieces
-  pub element : Pieces
-  pub tag : Tag
-  pub inside : Pieces
-  pub after : Pieces
-  pub items : List ContentItem
-  pub pieces_are : pieces ≡ chain_pieces before element
-  pub margin : IsMargin before
-  pub is_piece : IsElementPiece element tag inside after
-  pub inside_are : AreItems (scope_within root_scope tag) inside items
-  pub is_element : IsElement root_scope tag items r.root r.declared
-
--- after one more piece of the margin
-with_margin : (wrap : Pieces → Pieces) → ((c d : Pieces) → chain_pieces (wrap c) d ≡ wrap (chain_pieces c d))
-    → ((c : Pieces) → IsMargin c → IsMargin (wrap c)) → (after : Pieces) (r : Reading) → HasRoot after r → HasRoot (wrap after) r
-with_margin wrap chains stays after r p = record {
-  before = wrap p.before;
-  element = p.element;
-  tag = p.tag;
-  inside = p.inside;
-  after = p.after;
-  items = p.items;
-  pieces_are = ap wrap p.pieces_are ∙ sym (chains p.before p.element);
-  margin = stays p.before p.margin;
-  is_piece = p.is_piece;
-  inside_are = p.inside_are;
-  is_element = p.is_element;
-}
-
-root_of : (pieces : Pieces) (r : Reading) → BeginsWithRoot pieces r → HasRoot pieces r
-root_of Nothing r h = absurd h
-root_of (piece.Comment after) r h = with_margin piece.Comment (λ c q. refl) (λ c m. m) after r (root_of after r h)
-root_of (piece.Characters blank text after) r h =
-    with_margin (piece.Characters blank text) (λ c q. refl) (λ c m. (h.0, m)) after r (root_of after r h.1)
-root_of (piece.Section text after) r h = absurd h
-root_of (piece.Empty tag after) r h = record {
-  before = Nothing;
-  element = piece.Empty tag after;
-  tag = tag;
-  inside = Nothing;
-  after = after;
-  items = [];
-  pieces_are = refl;
-  margin = tt;
-  is_piece = inr (refl, refl);
-  inside_are = refl;
-  is_element = h.0;
-}
-root_of (piece.Start tag inside after) r h = record {
-  before = Nothing;
-  element = piece.Start tag inside after;
-  tag = tag;
-  inside = inside;
-  after = after;
-  items = h.0;
-  pieces_are = refl;
-  margin = tt;
-  is_piece = inl refl;
-  inside_are = h.1;
-  is_element = h.2;
-}
 
 pub named_have_scopes : (bytes : List ℕ) (r : Reading) → Spells bytes r → NamedHaveScopes bytes r
 named_have_scopes bytes r s path e h =

@@ -1,11 +1,13 @@
 -- A root by the cases of its first piece, which is how a reader meets it; and that this is what `IsRoot` says.
 use Rattle.std.specs.Prelude.{◌≡◌, true, List, [], ◌∷◌, refl}
-use Rattle.std.proofs.Common.{◌∙◌, ap, sym, subst}
+use Rattle.std.proofs.Common.{◌∙◌, ap, sym, subst, inl, inr}
 use Rattle.ifmap_elem.specs.declared.elements.Element.{Element}
 use Rattle.ifmap_elem.specs.declared.readings.Declared.{Declared}
 use Rattle.ifmap_elem.specs.declared.readings.Reading.{Reading}
+use Rattle.ifmap_elem.specs.declared.tokens.Tag.{Tag}
 use Rattle.ifmap_elem.specs.Document as piece
 use Rattle.ifmap_elem.specs.Document.{Pieces, Nothing, chain_pieces, ContentItem, Inner, Run, AreItems, IsElement, IsMargin, IsRoot}
+use Rattle.ifmap_elem.specs.InScope.{IsElementPiece}
 use Rattle.ifmap_elem.specs.Scopes.{root_scope, scope_within}
 
 -- from the first piece on: what a comment and white space leave is a root, and after an element a margin stands
@@ -79,40 +81,103 @@ root_begins c r h =
     (margin_begins h.before (chain_pieces h.element h.after) r h.margin_before
     (element_begins h.element h.after r.root r.declared h.means h.margin_after))
 
+-- the root of pieces between margins, with its tag and what stands in it
+pub record HasRoot (pieces : Pieces) (r : Reading) : Type 0 where
+  pub before : Pieces
+  pub element : Pieces
+  pub tag : Tag
+  pub inside : Pieces
+  pub after : Pieces
+  pub items : List ContentItem
+  pub pieces_are : pieces ≡ chain_pieces before element
+  pub margin : IsMargin before
+  pub is_piece : IsElementPiece element tag inside after
+  pub inside_are : AreItems (scope_within root_scope tag) inside items
+  pub is_element : IsElement root_scope tag items r.root r.declared
+  pub margin_after : IsMargin after
+
 -- after one more piece of the margin
 with_margin : (wrap : Pieces → Pieces) → ((c d : Pieces) → chain_pieces (wrap c) d ≡ wrap (chain_pieces c d))
-    → ((c : Pieces) → IsMargin c → IsMargin (wrap c)) → (after : Pieces) (r : Reading) → IsRoot after r → IsRoot (wrap after) r
-with_margin wrap chains stays after r i = record {
-  before = wrap i.before;
-  element = i.element;
-  after = i.after;
-  pieces_are = ap wrap i.pieces_are ∙ sym (chains i.before (chain_pieces i.element i.after));
-  margin_before = stays i.before i.margin_before;
-  means = i.means;
-  margin_after = i.margin_after;
+    → ((c : Pieces) → IsMargin c → IsMargin (wrap c)) → (after : Pieces) (r : Reading) → HasRoot after r → HasRoot (wrap after) r
+with_margin wrap chains stays after r p = record {
+  before = wrap p.before;
+  element = p.element;
+  tag = p.tag;
+  inside = p.inside;
+  after = p.after;
+  items = p.items;
+  pieces_are = ap wrap p.pieces_are ∙ sym (chains p.before p.element);
+  margin = stays p.before p.margin;
+  is_piece = p.is_piece;
+  inside_are = p.inside_are;
+  is_element = p.is_element;
+  margin_after = p.margin_after;
+}
+
+pub root_of : (pieces : Pieces) (r : Reading) → BeginsWithRoot pieces r → HasRoot pieces r
+root_of Nothing r h = absurd h
+root_of (piece.Comment after) r h = with_margin piece.Comment (λ c q. refl) (λ c m. m) after r (root_of after r h)
+root_of (piece.Characters blank text after) r h =
+    with_margin (piece.Characters blank text) (λ c q. refl) (λ c m. (h.0, m)) after r (root_of after r h.1)
+root_of (piece.Section text after) r h = absurd h
+root_of (piece.Empty tag after) r h = record {
+  before = Nothing;
+  element = piece.Empty tag after;
+  tag = tag;
+  inside = Nothing;
+  after = after;
+  items = [];
+  pieces_are = refl;
+  margin = tt;
+  is_piece = inr (refl, refl);
+  inside_are = refl;
+  is_element = h.0;
+  margin_after = h.1;
+}
+root_of (piece.Start tag inside after) r h = record {
+  before = Nothing;
+  element = piece.Start tag inside after;
+  tag = tag;
+  inside = inside;
+  after = after;
+  items = h.0;
+  pieces_are = refl;
+  margin = tt;
+  is_piece = inl refl;
+  inside_are = h.1;
+  is_element = h.2;
+  margin_after = h.3;
 }
 
 pub begins_root : (c : Pieces) (r : Reading) → BeginsWithRoot c r → IsRoot c r
-begins_root Nothing r h = absurd h
-begins_root (piece.Comment after) r h = with_margin piece.Comment (λ c d. refl) (λ c m. m) after r (begins_root after r h)
-begins_root (piece.Characters blank text after) r h =
-    with_margin (piece.Characters blank text) (λ c d. refl) (λ c m. (h.0, m)) after r (begins_root after r h.1)
-begins_root (piece.Section text after) r h = absurd h
-begins_root (piece.Empty tag after) r h = record {
-  before = Nothing;
-  element = piece.Empty tag Nothing;
-  after = after;
-  pieces_are = refl;
-  margin_before = tt;
-  means = (r.root, r.declared, [], refl, h.0, refl);
-  margin_after = h.1;
-}
-begins_root (piece.Start tag inside after) r h = record {
-  before = Nothing;
-  element = piece.Start tag inside Nothing;
-  after = after;
-  pieces_are = refl;
-  margin_before = tt;
-  means = (h.0, r.root, r.declared, [], refl, h.1, h.2, refl);
-  margin_after = h.3;
-}
+begins_root c r h =
+    let root = root_of c r h in
+    elim root.is_piece [
+      | inl start ↦ record {
+        before = root.before;
+        element = piece.Start root.tag root.inside Nothing;
+        after = root.after;
+        pieces_are = root.pieces_are ∙ ap (chain_pieces root.before) start;
+        margin_before = root.margin;
+        means = (root.items, r.root, r.declared, [], refl, root.inside_are, root.is_element, refl);
+        margin_after = root.margin_after;
+      }
+      | inr empty ↦
+          let none : root.items ≡ [] =
+          subst (λ (d : Pieces). AreItems (scope_within root_scope root.tag) d root.items) empty.1 root.inside_are in record {
+            before = root.before;
+            element = piece.Empty root.tag Nothing;
+            after = root.after;
+            pieces_are = root.pieces_are ∙ ap (chain_pieces root.before) empty.0;
+            margin_before = root.margin;
+            means = (
+              r.root,
+              r.declared,
+              [],
+              refl,
+              subst (λ (is : List ContentItem). IsElement root_scope root.tag is r.root r.declared) none root.is_element,
+              refl,
+            );
+            margin_after = root.margin_after;
+          }
+    ]
