@@ -15,7 +15,6 @@ use Rattle.ifmap_elem.specs.declared.elements.Element.{Element}
 use Rattle.ifmap_elem.specs.declared.readings.Declared.{Declared}
 use Rattle.ifmap_elem.specs.declared.readings.Reading.{Reading}
 use Rattle.ifmap_elem.specs.declared.tokens.Tag.{Tag}
-use Rattle.ifmap_elem.specs.declared.tokens.Token.{Token}
 use Rattle.ifmap_elem.specs.Document as piece
 use Rattle.ifmap_elem.specs.Document.{Pieces, Nothing, chain_pieces, ContentItem, Inner, Run, is_inner, put_before, join_runs, is_child, children_among, child_of, IsElement, AreItems}
 use Rattle.ifmap_elem.specs.InScope.{IsElementPiece, IsChildAt, LeadsTo, NamesElementAt, ResolvedIn, NamedHaveScopes, ScopesAreNamed}
@@ -23,9 +22,8 @@ use Rattle.ifmap_elem.specs.Scopes.{Scope, root_scope, scope_within, NamesElemen
 use Rattle.ifmap_elem.specs.Spells.{Spells}
 use Rattle.ifmap_elem.specs.laws.ArrangedLaws.{one_element, out_element}
 use Rattle.ifmap_elem.specs.laws.FitLaws.{out_text}
-use Rattle.ifmap_elem.specs.laws.OneReading.{one_lexing, one_heading, one_content}
-use Rattle.ifmap_elem.specs.laws.Resolving.{child_there, root_there, after_margin, joined_both}
-use Rattle.ifmap_elem.specs.laws.Roots.{BeginsWithRoot, root_begins, root_of}
+use Rattle.ifmap_elem.specs.laws.Resolving.{child_there, joined_both, root_led}
+use Rattle.ifmap_elem.specs.laws.Roots.{root_begins, root_of}
 
 -- from a child element to its item
 
@@ -408,12 +406,5 @@ named_have_scopes bytes r s path e h =
 
 pub scopes_are_named : (bytes : List ℕ) (r : Reading) → Spells bytes r → ScopesAreNamed bytes r
 scopes_are_named bytes r s path scope h =
-    let tokens = one_lexing _ s.tokens h.tokens s.lexed h.lexed in
-    let heads = one_heading s.document.declared h.declared s.document.pieces (chain_pieces h.before h.element)
-    (sym s.document.tokens_are ∙ tokens ∙ h.tokens_are) in
-    let pieces = (one_content s.document.pieces (chain_pieces h.before h.element) [] [] tt tt
-    (ap (λ (ts : List Token). ts ++ []) heads)).0 in
-    let begins = after_margin h.before h.element r h.margin (subst (λ (q : Pieces). BeginsWithRoot q r) pieces
-    (root_begins s.document.pieces r s.document.rooted)) in
-    let root = root_there h.element h.tag h.inside h.after r h.is_element begins in
+    let root = root_led bytes r s path scope h in
     named_there path root_scope h.tag h.inside root.0 r.root r.declared scope root.1 root.2 h.leads

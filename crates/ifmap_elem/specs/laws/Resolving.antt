@@ -19,7 +19,7 @@ use Rattle.ifmap_elem.specs.declared.tokens.Tag.{Tag}
 use Rattle.ifmap_elem.specs.declared.tokens.Token.{Token}
 use Rattle.ifmap_elem.specs.Document as piece
 use Rattle.ifmap_elem.specs.Document.{Pieces, Nothing, chain_pieces, tokens_of, heading, ContentItem, Inner, Run, is_inner, put_before, join_runs, is_child, children_among, declared_here, declared_below, from_above, IsElement, AreItems, IsMargin}
-use Rattle.ifmap_elem.specs.InScope.{binding_told, declared_at, is_listed, listed_space, IsElementPiece, children_before, IsChildAt, LeadsTo, ResolvesAsDeclared}
+use Rattle.ifmap_elem.specs.InScope.{binding_told, declared_at, is_listed, listed_space, IsElementPiece, children_before, IsChildAt, LeadsTo, HasScope, ResolvesAsDeclared}
 use Rattle.ifmap_elem.specs.Scopes.{Binding, Scope, bindings, prefix_space, root_scope, scope_within}
 use Rattle.ifmap_elem.specs.Spells.{Spells}
 use Rattle.ifmap_elem.specs.laws.OneReading.{one_lexing, one_heading, one_content, one_meaning}
@@ -279,7 +279,7 @@ listed_alike s t p e = elim (cases_Bool (is_listed p)) [
 ]
 
 -- after a margin the element of the document
-pub after_margin : (c d : Pieces) (r : Reading) → IsMargin c → BeginsWithRoot (chain_pieces c d) r → BeginsWithRoot d r
+after_margin : (c d : Pieces) (r : Reading) → IsMargin c → BeginsWithRoot (chain_pieces c d) r → BeginsWithRoot d r
 after_margin Nothing d r m h = h
 after_margin (piece.Comment after) d r m h = after_margin after d r m h
 after_margin (piece.Characters blank text after) d r m h = after_margin after d r m.1 h.1
@@ -287,7 +287,7 @@ after_margin (piece.Section text after) d r m h = absurd m
 after_margin (piece.Empty tag after) d r m h = absurd m
 after_margin (piece.Start tag inside after) d r m h = absurd m
 
-pub root_there : (pieces : Pieces) (tag : Tag) (inside after : Pieces) (r : Reading) → IsElementPiece pieces tag inside after
+root_there : (pieces : Pieces) (tag : Tag) (inside after : Pieces) (r : Reading) → IsElementPiece pieces tag inside after
     → BeginsWithRoot pieces r
     → (items : List ContentItem) × IsElement root_scope tag items r.root r.declared × AreItems (scope_within root_scope tag) inside items
 root_there pieces tag inside after r is b = elim is [
@@ -297,8 +297,11 @@ root_there pieces tag inside after r is b = elim is [
       ([], h.0, subst (λ (q : Pieces). AreItems (scope_within root_scope tag) q []) (sym e.1) refl)
 ]
 
-pub resolves_as_declared : (bytes : List ℕ) (r : Reading) → Spells bytes r → ResolvesAsDeclared bytes r
-resolves_as_declared bytes r s path scope h prefix =
+-- where a path in the bytes leads from is the root of their one reading
+pub root_led : (bytes : List ℕ) (r : Reading) → Spells bytes r → (path : List ℕ) (scope : Scope) (h : HasScope bytes path scope)
+    → (items : List ContentItem) × IsElement root_scope h.tag items r.root r.declared
+    × AreItems (scope_within root_scope h.tag) h.inside items
+root_led bytes r s path scope h =
     let tokens = one_lexing _ s.tokens h.tokens s.lexed h.lexed in
     let heads = one_heading s.document.declared h.declared s.document.pieces (chain_pieces h.before h.element)
     (sym s.document.tokens_are ∙ tokens ∙ h.tokens_are) in
@@ -306,6 +309,10 @@ resolves_as_declared bytes r s path scope h prefix =
     (ap (λ (ts : List Token). ts ++ []) heads)).0 in
     let begins = after_margin h.before h.element r h.margin (subst (λ (q : Pieces). BeginsWithRoot q r) pieces
     (root_begins s.document.pieces r s.document.rooted)) in
-    let root = root_there h.element h.tag h.inside h.after r h.is_element begins in
+    root_there h.element h.tag h.inside h.after r h.is_element begins
+
+pub resolves_as_declared : (bytes : List ℕ) (r : Reading) → Spells bytes r → ResolvesAsDeclared bytes r
+resolves_as_declared bytes r s path scope h prefix =
+    let root = root_led bytes r s path scope h in
     listed_alike (declared_at path r.declared) scope prefix (resolves path root_scope h.tag h.inside root.0 r.root r.declared scope root.1
     root.2 h.leads prefix)
