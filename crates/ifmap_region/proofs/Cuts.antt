@@ -22,7 +22,7 @@ use Rattle.ifmap_region.proofs.FlipLists.{flipped_back}
 use Rattle.ifmap_region.specs.Spreading.{queue_at}
 use Rattle.ifmap_region.specs.Losing.{Awaits, HasNearerMark, AreGone, IsLookedAt, IsBeforeCut, IsCutting}
 use Rattle.ifmap_region.proofs.Lost.{losing_passed, losing_entered, losing_held, losing_gone, moved_here}
-use Rattle.ifmap_region.proofs.Falling.{queue_out, queue_in, queue_first, now_in, now_new, now_out, next_in, next_new, next_out}
+use Rattle.ifmap_region.proofs.Falling.{queue_out, queue_in, queue_first, now_in, now_new, now_out, next_in, next_new, next_out, seed_first, seed_out, seed_in}
 
 pub some_row : (o : Option (Option ℕ)) → IsSome o → (r : Option ℕ) × (o ≡ Some r)
 some_row None h = absurd (true≢false (sym h))
@@ -170,8 +170,8 @@ module _ (count : ℕ → ℕ) (link : ℕ → ℕ → Option ℕ) (terminal : �
           (λ u x l. inl l) Near
           rows rows' (λ k x. Contains seeds (k, x)) (λ k x. Contains rest (k, x)) (queue_at level now [])
           (queue_at level (now ++ w ∷ []) [])
-          level level w p.0 seed.0 seed.1 seed.2 there back (now_in level w now []) (now_new level w now []) (now_out level w now [])
-          c.losing;
+          level level w p.0 seed.0 seed.1 seed.2 (seed_out level w seeds rest is) (seed_in level w seeds rest is)
+          (now_in level w now []) (now_new level w now []) (now_out level w now []) c.losing;
       are_gone = gone_held count rows rows' gone w p.0.bare p.0.others level p.0.here c.are_gone;
       once_now = distinct_push now w (λ y h at. none-some (Some level) (sym p.0.bare ∙ ap (row_of rows) (sym at) ∙ c.losing.in_queue level y
           (inl (refl, h)))) c.once_now;
@@ -182,27 +182,15 @@ module _ (count : ℕ → ℕ) (link : ℕ → ℕ → Option ℕ) (terminal : �
     })
   ]
     where
-      first_seed : Contains seeds (level, w)
-      first_seed = subst (λ (l : List (ℕ × ℕ)). Contains l (level, w)) (sym is) (0, omega arith, refl)
-
       seed : (first w ≡ Some level) × (0 < level) × Near w
-      seed = c.losing.entered level w first_seed
-
-      there : (k x : ℕ) → Contains seeds (k, x) → ((k ≡ level) × (x ≡ w)) ⊎ Contains rest (k, x)
-      there k x h = elim (Contains-append_cases ((level, w) ∷ []) rest (k, x) (subst (λ (l : List (ℕ × ℕ)). Contains l (k, x)) is h)) [
-        | inl one ↦ let e = contains_one (level, w) (k, x) one in
-            inl (ap (λ (q : ℕ × ℕ). q.0) (sym e), ap (λ (q : ℕ × ℕ). q.1) (sym e))
-        | inr r ↦ inr r
-      ]
-
-      back : (k x : ℕ) → Contains rest (k, x) → Contains seeds (k, x)
-      back k x h = subst (λ (l : List (ℕ × ℕ)). Contains l (k, x)) (sym is) (Contains-append_right ((level, w) ∷ []) rest (k, x) h)
+      seed = c.losing.entered level w (seed_first level w seeds rest is)
 
       passed_by : IsSome (row_of rows w) → Cutting rows gone rest now [] spent
       passed_by h = let s = some_row (row_of rows w) h in record {
         losing = losing_passed (WithRemoved (Linked count link) flips) (Linked count link) terminal start top first b.depths
             (λ u x l. inl l) Near
-            rows (λ k x. Contains seeds (k, x)) (λ k x. Contains rest (k, x)) (queue_at level now []) level w s.0 s.1 there back c.losing;
+            rows (λ k x. Contains seeds (k, x)) (λ k x. Contains rest (k, x)) (queue_at level now []) level w s.0 s.1
+            (seed_out level w seeds rest is) (seed_in level w seeds rest is) c.losing;
         are_gone = c.are_gone;
         once_now = c.once_now;
         once_next = c.once_next;

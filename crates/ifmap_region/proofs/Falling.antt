@@ -61,6 +61,21 @@ module _ (level v : ℕ) where
     | inr c ↦ elim (Contains-push_cases next v x c.1) [ inl old ↦ inr (inr (c.0, old)) | inr e ↦ inl (c.0, sym e) ]
   ]
 
+-- the first seed, and those after it
+module _ (level v : ℕ) (seeds rest : List (ℕ × ℕ)) (is : seeds ≡ (level, v) ∷ rest) where
+  pub seed_first : Contains seeds (level, v)
+  seed_first = subst (λ (l : List (ℕ × ℕ)). Contains l (level, v)) (sym is) (0, omega arith, refl)
+
+  pub seed_out : (k x : ℕ) → Contains seeds (k, x) → ((k ≡ level) × (x ≡ v)) ⊎ Contains rest (k, x)
+  seed_out k x h = elim (Contains-append_cases ((level, v) ∷ []) rest (k, x) (subst (λ (l : List (ℕ × ℕ)). Contains l (k, x)) is h)) [
+    | inl one ↦ let e = contains_one (level, v) (k, x) one in
+        inl (ap (λ (q : ℕ × ℕ). q.0) (sym e), ap (λ (q : ℕ × ℕ). q.1) (sym e))
+    | inr r ↦ inr r
+  ]
+
+  pub seed_in : (k x : ℕ) → Contains rest (k, x) → Contains seeds (k, x)
+  seed_in k x h = subst (λ (l : List (ℕ × ℕ)). Contains l (k, x)) (sym is) (Contains-append_right ((level, v) ∷ []) rest (k, x) h)
+
 queue_low : (level : ℕ) (now : List ℕ) (k x : ℕ) → queue_at level now [] k x → k ≤ level
 queue_low level now k x w = elim w [ inl p ↦ omega (arith, p.0) | inr c ↦ absurd (no_member [] x refl c.1) ]
 
@@ -379,26 +394,13 @@ module _ (links : ℕ → ℕ → Type 0) (terminal : ℕ → Bool) (start top :
       | inl p ↦ subst (λ (l : List ℕ). IsFalling links terminal start top (mark_over rows' below) rest level l []) (sym p.2)
           (subst (λ (o : List (ℕ × Option ℕ)). IsFalling links terminal start top (mark_over o below) rest level queue []) (sym p.1)
           (ready_passed (mark_over rows below) (λ k x. Contains seeds (k, x)) (λ k x. Contains rest (k, x)) (queue_at level queue []) level
-          v p.0.0
-          p.0.2 p.0.1 there back r))
+          v p.0.0 p.0.2 p.0.1 (seed_out level v seeds rest is) (seed_in level v seeds rest is) r))
       | inr p ↦ subst (λ (l : List ℕ). IsFalling links terminal start top (mark_over rows' below) rest level l []) (sym p.1)
-          (ready_set (mark_over rows below) (mark_over rows' below) level v p.0 (r.walks v level first_seed) (λ k x. Contains seeds (k, x))
-          (λ k x. Contains rest (k, x)) (queue_at level queue []) (queue_at level (queue ++ v ∷ []) []) (queue_low level queue) there back
+          (ready_set (mark_over rows below) (mark_over rows' below) level v p.0 (r.walks v level (seed_first level v seeds rest is))
+          (λ k x. Contains seeds (k, x)) (λ k x. Contains rest (k, x)) (queue_at level queue []) (queue_at level (queue ++ v ∷ []) [])
+          (queue_low level queue) (seed_out level v seeds rest is) (seed_in level v seeds rest is)
           (now_in level v queue []) (now_new level v queue []) (now_out level v queue []) r)
     ]
-      where
-        first_seed : Contains seeds (level, v)
-        first_seed = subst (λ (l : List (ℕ × ℕ)). Contains l (level, v)) (sym is) (0, omega arith, refl)
-
-        there : (k x : ℕ) → Contains seeds (k, x) → ((k ≡ level) × (x ≡ v)) ⊎ Contains rest (k, x)
-        there k x h = elim (Contains-append_cases ((level, v) ∷ []) rest (k, x) (subst (λ (l : List (ℕ × ℕ)). Contains l (k, x)) is h)) [
-          | inl one ↦ let e = contains_one (level, v) (k, x) one in
-              inl (ap (λ (q : ℕ × ℕ). q.0) (sym e), ap (λ (q : ℕ × ℕ). q.1) (sym e))
-          | inr r ↦ inr r
-        ]
-
-        back : (k x : ℕ) → Contains rest (k, x) → Contains seeds (k, x)
-        back k x h = subst (λ (l : List (ℕ × ℕ)). Contains l (k, x)) (sym is) (Contains-append_right ((level, v) ∷ []) rest (k, x) h)
 
 -- the walk of a seed
 pub seed_walk : (links : ℕ → ℕ → Type 0) (terminal : ℕ → Bool) (start top : ℕ) (m : ℕ → Option ℕ) (level v : ℕ) (seeds rest : List (ℕ × ℕ))
