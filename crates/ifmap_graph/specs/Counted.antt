@@ -1,13 +1,13 @@
 -- How many identifiers are such, and how many links carry something.
 use Rattle.std.specs.Prelude.{◌≡◌, ℕ, ◌+◌, Bool, true, false, List, [], ◌∷◌, length, if◌then◌else◌}
-use Rattle.std.specs.List.{IsDistinct, filter, list_any}
+use Rattle.std.specs.List.{IsDistinct, filter}
 use Rattle.ifmap_lemmas.specs.Having.{Has}
 use Rattle.ifmap_ident.specs.declared.identifiers.Identifier.{Identifier}
 use Rattle.ifmap_ident.specs.declared.items.Item.{Item}
 use Rattle.ifmap_ident.specs.declared.items.Item.TheVariants.{One, Pair}
 use Rattle.ifmap_ident.specs.Identifiers.{same_identifier}
-use Rattle.ifmap_ident.specs.Items.{same_item}
 use Rattle.ifmap_meta.specs.declared.stored.Stored.{Stored}
+use Rattle.ifmap_plans.specs.After.{items_of}
 use Rattle.ifmap_view.specs.declared.attachments.Attachment.{Attachment}
 use Rattle.ifmap_graph.specs.Joined.{is_not_empty}
 
@@ -17,18 +17,13 @@ AreSoMany n P =
     (ids : List Identifier) × IsDistinct same_identifier ids × (length ids ≡ n)
     × ((a : Identifier) → (Has ids a → P a) × (P a → Has ids a))
 
--- the items of attachments, each once
-abbrev pub items_in : List Attachment → List Item
-items_in [] = []
-items_in (r ∷ rs) = if list_any (λ s. same_item s.item r.item) rs then items_in rs else r.item ∷ items_in rs
-
 abbrev pub is_link : Item → Bool
 is_link (One a) = false
 is_link (Pair a b) = true
 
 -- how many links carry an attachment
 abbrev pub count_links : List Attachment → ℕ
-count_links rows = length (filter is_link (items_in rows))
+count_links rows = length (filter is_link (items_of rows))
 
 -- one, where the item is a link that has something on it
 abbrev pub link_once : Item → List Stored → ℕ
