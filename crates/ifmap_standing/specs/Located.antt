@@ -1,5 +1,6 @@
 -- A change whose plan's items were looked up.
 use Rattle.ifmap_delta.specs.declared.locating.LocatedPlan.{LocatedPlan}
+use Rattle.ifmap_delta.specs.Changes.{ShowsAfter}
 use Rattle.ifmap_delta.specs.Located.{IsLocatedPlan}
 use Rattle.ifmap_delta.specs.Sights.{ViewSeen}
 use Rattle.ifmap_view.specs.Views.{IsView}
@@ -9,3 +10,8 @@ pub record IsLocatedIn (old new : ViewSeen) (p : LocatedPlan) : Type 0 where
   pub graph : IsView old.rows old.id_at old.links
   pub draft : IsView new.rows new.id_at new.links
   pub items : IsLocatedPlan old new p
+
+-- and one view shows the other after the plan's changes
+pub record IsPlannedIn (old new : ViewSeen) (p : LocatedPlan) : Type 0 where
+  pub located : IsLocatedIn old new p
+  pub change : ShowsAfter old new p.plan.now.changes

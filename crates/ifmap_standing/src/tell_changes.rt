@@ -3,6 +3,7 @@ ghost use Rattle.std.specs.Prelude.{◌≡◌, ◌≤◌, ◌<◌, ℕ, [], Some
 ghost use Rattle.std.specs.List.{AllByRecursion, zip};
 ghost use Rattle.ifmap_delta.specs.Bounds.{IsWithinBound};
 ghost use Rattle.ifmap_delta.specs.Changes.{ShowsAfter};
+ghost use Rattle.ifmap_delta.specs.Located.{IsPlannedDraft};
 ghost use Rattle.ifmap_delta.specs.Sights.{IsUpToDate, view_seen};
 ghost use Rattle.ifmap_delta.specs.Ways.{HasSameSearch};
 ghost use Rattle.ifmap_delta.specs.ifmap_folds.Differences.{difference};
@@ -10,7 +11,7 @@ ghost use Rattle.ifmap_delta.specs.ifmap_fresh.Fresh.{fresh};
 ghost use Rattle.ifmap_ident.specs.Items.{IsCanonItem};
 ghost use Rattle.ifmap_standing.specs.Bounds.{IsWithinEach, IsWithinWhere};
 ghost use Rattle.ifmap_standing.specs.Kept.{AtEach, KeepsSame, StaysRelated};
-ghost use Rattle.ifmap_standing.specs.Located.{IsLocatedIn};
+ghost use Rattle.ifmap_standing.specs.Located.{IsLocatedIn, IsPlannedIn};
 ghost use Rattle.ifmap_standing.specs.News.{news_of, news_of_each, news_where};
 ghost use Rattle.ifmap_standing.specs.Standing.{standing_of};
 ghost use Rattle.ifmap_standing.specs.Ways.{LeadBack, LeadsBack, LeadsBackWhere};
@@ -189,13 +190,10 @@ fn tell_where<G: View, D: View, L: Ledger>(
     change: &LocatedGraphChange<'_, G, D>,
     steps: &mut Steps<L>,
 ) -> Result<Record, NoMemory>
-    requires located { IsLocatedIn (view_seen G.rows G.id_at G.links change.now.graph.now)
+    requires planned { IsPlannedIn (view_seen G.rows G.id_at G.links change.now.graph.now)
         (view_seen D.rows D.id_at D.links change.now.draft.now) change.now.located }
     requires kept { is_skipped ≡ false → IsUpToDate
         (view_seen G.rows G.id_at G.links change.now.graph.now) standing.old.subscription }
-    requires change { ShowsAfter (view_seen G.rows G.id_at G.links change.now.graph.now)
-        (view_seen D.rows D.id_at D.links change.now.draft.now)
-        change.now.located.plan.now.changes }
     requires canon { AllByRecursion (λ n. IsCanonItem n.item) change.now.located.plan.now.notes }
     ensures news { IfOk result (λ told. told.news ≡ news_where (G.rows change.now.graph.now)
         (D.rows change.now.draft.now) change.now.located.plan.now.notes is_skipped
@@ -227,13 +225,10 @@ fn tell_one<G: View, D: View, L: Ledger>(
     change: &LocatedGraphChange<'_, G, D>,
     steps: &mut Steps<L>,
 ) -> Result<Record, NoMemory>
-    requires located { IsLocatedIn (view_seen G.rows G.id_at G.links change.now.graph.now)
+    requires planned { IsPlannedIn (view_seen G.rows G.id_at G.links change.now.graph.now)
         (view_seen D.rows D.id_at D.links change.now.draft.now) change.now.located }
     requires kept { IsUpToDate (view_seen G.rows G.id_at G.links change.now.graph.now)
         standing.old.subscription }
-    requires change { ShowsAfter (view_seen G.rows G.id_at G.links change.now.graph.now)
-        (view_seen D.rows D.id_at D.links change.now.draft.now)
-        change.now.located.plan.now.changes }
     requires canon { AllByRecursion (λ n. IsCanonItem n.item) change.now.located.plan.now.notes }
     ensures news { IfOk result (λ told. told.news ≡ news_of (G.rows change.now.graph.now)
         (D.rows change.now.draft.now) change.now.located.plan.now.notes
@@ -276,13 +271,10 @@ fn take_over<G: View, D: View, L: Ledger>(
     change: &LocatedGraphChange<'_, G, D>,
     steps: &mut Steps<L>,
 ) -> Result<TakenOver, NoMemory>
-    requires located { IsLocatedIn (view_seen G.rows G.id_at G.links change.now.graph.now)
+    requires planned { IsPlannedDraft (view_seen G.rows G.id_at G.links change.now.graph.now)
         (view_seen D.rows D.id_at D.links change.now.draft.now) change.now.located }
     requires kept { IsUpToDate (view_seen G.rows G.id_at G.links change.now.graph.now)
         subscription.old }
-    requires change { ShowsAfter (view_seen G.rows G.id_at G.links change.now.graph.now)
-        (view_seen D.rows D.id_at D.links change.now.draft.now)
-        change.now.located.plan.now.changes }
     ensures deleted { IfOk result (λ taken. taken.differences.deleted
         ≡ difference (fresh (G.rows change.now.graph.now) subscription.old.search)
         (fresh (D.rows change.now.draft.now) subscription.old.search)) }

@@ -18,8 +18,11 @@ pub tell_where-requires-clause-kept : goal.tell_where-requires-clause-kept
 tell_where-requires-clause-kept g c =
     kept_so_far c.loop-at.invariant.stage c.requires.flags c.loop-at-test.true c.index-standing-at.result c.requires.kept
 
-pub tell_where-requires-clause-located : goal.tell_where-requires-clause-located
-tell_where-requires-clause-located g c = c.requires.located (omega (arith, c.loop-at-test.true))
+pub tell_where-requires-clause-planned : goal.tell_where-requires-clause-planned
+tell_where-requires-clause-planned g c = record {
+  located = c.requires.located (omega (arith, c.loop-at-test.true));
+  change = c.requires.change;
+}
 
 pub push_reserved-requires : goal.push_reserved-requires
 push_reserved-requires g c =

@@ -3,6 +3,19 @@ use Rattle.ifmap_delta.specs.ifmap_folds.Differences.{difference}
 use Rattle.ifmap_delta.specs.ifmap_fresh.Fresh.{fresh}
 use Rattle.ifmap_standing.proofs.tell_changes.tell_one.Goals as goal
 
+pub take_over-requires-clause-planned : goal.take_over-requires-clause-planned
+take_over-requires-clause-planned g c =
+    let located = c.requires.planned.located
+    in record {
+      graph = located.graph;
+      draft = located.draft;
+      change = c.requires.planned.change;
+      located = located.items.changes;
+    }
+
+pub news_of-requires-clause-located : goal.news_of-requires-clause-located
+news_of-requires-clause-located g c = c.requires.planned.located
+
 pub news_of-requires-clause-deleted : goal.news_of-requires-clause-deleted
 news_of-requires-clause-deleted g c =
     let a = g.G.View.rows c.args.change.now.graph.now
