@@ -63,11 +63,15 @@ IsAskWithin state event (Request (the_request.PurgePublisher id publisher)) befo
     IsWithinOwn event.client (session_with_id id state.sessions)
     (λ s. IsWithinIf (is_same_text publisher s.client) (IsTakenWithin (Publisher publisher) state)) before after
 
+-- what an event asks, in a state without expired sessions
+abbrev pub IsAnsweredWithin : State → Event → ℕ → ℕ → Type 0
+IsAnsweredWithin state event before after = IsAskWithin state event event.ask before after
+
 -- an event, in a state at its moment
 abbrev pub IsEventWithin : State → Event → ℕ → ℕ → Type 0
 IsEventWithin state event before after =
     (middle : ℕ) × IsEndedWithin (expired_serials state.moment state.ttl state.sessions) state before middle
-    × IsAskWithin (expire state) event event.ask middle after
+    × IsAnsweredWithin (expire state) event middle after
 
 -- the sum of the table's rows for an event
 abbrev pub IsWithinTable : State → Event → ℕ → ℕ → Type 0

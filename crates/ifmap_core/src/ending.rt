@@ -7,7 +7,7 @@ ghost use Rattle.ifmap_subscribes.specs.ifmap_changes.Between.{AreBack, AreParts
 ghost use Rattle.ifmap_subscribes.specs.ifmap_changes.Changes.{CanSettle, CanTakeBack};
 ghost use Rattle.ifmap_subscribes.specs.ifmap_changes.declared.parts.Parts.{Parts};
 ghost use Rattle.ifmap_core.specs.Answering.{CanAnswer};
-ghost use Rattle.ifmap_core.specs.Bounds.{IsAskWithin, IsEventWithin};
+ghost use Rattle.ifmap_core.specs.Bounds.{IsAnsweredWithin, IsEventWithin};
 ghost use Rattle.ifmap_core.specs.Ending.{AnswersEvent, state_when};
 ghost use Rattle.ifmap_core.specs.Light.{IsLight};
 ghost use Rattle.ifmap_core.specs.Completions.{CanFinish};
@@ -103,8 +103,7 @@ fn answer_all<L: Ledger>(
     ensures answers { AnswersEvent result time.now (state_when time.now parts.old) event.now
         parts.old parts.new }
     ensures light { IsLight parts.old.sessions.live event.now → IsOk result }
-    ensures steps { IsAskWithin (state_when time.now parts.old) event.now event.now.ask steps.old
-        steps.new }
+    ensures steps { IsAnsweredWithin (state_when time.now parts.old) event.now steps.old steps.new }
 {
     match light_completion(&parts.sessions, event) {
         Some(completion) => Ok(apply_completion(parts, time.moment, completion)),
@@ -123,8 +122,7 @@ fn answer_pending<L: Ledger>(
     requires { AreParts parts.old }
     ensures answers { AnswersEvent result time.now (state_when time.now parts.old) event.now
         parts.old parts.new }
-    ensures steps { IsAskWithin (state_when time.now parts.old) event.now event.now.ask steps.old
-        steps.new }
+    ensures steps { IsAnsweredWithin (state_when time.now parts.old) event.now steps.old steps.new }
 {
     let asking = Asking {
         client: &event.client,
@@ -210,8 +208,8 @@ fn answer_ended<L: Ledger>(
         → KeepsNumbers before.graph parts.old.graph → CanTakeBack ending.made before parts.old
         → AreBack before parts.new) }
     ensures parts { OnOk result (AreParts parts.new) }
-    ensures steps { IsAskWithin (state_now asking.now parts.old ending.pending) event.now
-        event.now.ask steps.old steps.new }
+    ensures steps { IsAnsweredWithin (state_now asking.now parts.old ending.pending) event.now
+        steps.old steps.new }
     ensures lean { OnOk result ((before : Parts) → CanTakeBack ending.made before parts.old
         → StaysLean before.graph parts.new.graph) }
 {
