@@ -214,17 +214,18 @@ module _ (caller : Caller) (request : Request) (known : Known) (before mid : Por
       (prints : Prints (body_text told.body) mid after r)
       (is : OnOk r (new ≡ after_reply told.reply known)) where
     -- as if the reply had been printed while it was asked
-    abbrev joined : Ports
-    joined = record { held = after.held; write_faults = after.write_faults; first = mid.first; second = mid.second }
+    abbrev joined_ports : Ports
+    joined_ports = record { held = after.held; write_faults = after.write_faults; first = mid.first; second = mid.second }
 
-    joined_asks : (sent : Request) (b : Bool) → AsksBy b caller sent before mid (Ok told) → AsksBy b caller sent before joined (Ok told)
+    joined_asks : (sent : Request) (b : Bool) → AsksBy b caller sent before mid (Ok told)
+        → AsksBy b caller sent before joined_ports (Ok told)
     joined_asks sent true w = w
     joined_asks sent false w = w
 
     sent_printed : (sent : Request) → request_in known.session request ≡ Some sent → IsAsked caller sent before mid (Ok told)
-        → CarriesOut caller (the_line.Request request) before joined known new r
+        → CarriesOut caller (the_line.Request request) before joined_ports known new r
     sent_printed sent named a =
-        answered caller sent before joined unspent known request named told (joined_asks sent (is_poll sent) a.asks) new r
+        answered caller sent before joined_ports unspent known request named told (joined_asks sent (is_poll sent) a.asks) new r
         (subst (λ (n : ℕ). SendsText before.held after.held n after.write_faults (body_text told.body) r) a.write_faults
         (subst (λ (h : Option (List ℕ)). SendsText h after.held mid.write_faults after.write_faults (body_text told.body) r) a.held
         prints.sends)) is
@@ -233,7 +234,7 @@ module _ (caller : Caller) (request : Request) (known : Known) (before mid : Por
         → CarriesOut caller (the_line.Request request) before after known new r
     request_told (inl (sent, named, a)) =
         subst (λ (p : Ports). CarriesOut caller (the_line.Request request) before p known new r)
-        (sym (same_ports joined after refl refl prints.first prints.second)) (sent_printed sent named a)
+        (sym (same_ports joined_ports after refl refl prints.first prints.second)) (sent_printed sent named a)
     request_told (inr (x, inl e)) = let q : Ok told ≡ Err failure.NoMemory = e in cc
     request_told (inr (x, inr e)) = let q : Ok told ≡ Err failure.BadLine = e.1 in cc
 

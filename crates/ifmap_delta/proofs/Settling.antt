@@ -105,19 +105,19 @@ module _ (tells : BytesTellIdentifiers) (reach : LevelsReach) (expand : LevelsEx
           (subst (λ o. goes_on s o (Some k) ≡ true) i e)))
 
   module _ (numbers : List ℕ) (all : (v : ℕ) → mark v ≢ mark' v → Has numbers v) where
-    abbrev gathered : List Item
-    gathered = planned_items (is_looked_at_either old new s) changes ++ moved_items new s mark mark' numbers
+    abbrev gathered_items : List Item
+    gathered_items = planned_items (is_looked_at_either old new s) changes ++ moved_items new s mark mark' numbers
 
     abbrev brings : ℕ → List Item
     brings v = brought_items new s v (mark v) (mark' v)
 
-    by_moved : (v : ℕ) (x : Item) → mark v ≢ mark' v → Has (brings v) x → Has gathered x
+    by_moved : (v : ℕ) (x : Item) → mark v ≢ mark' v → Has (brings v) x → Has gathered_items x
     by_moved v x differ h =
         has_right (planned_items (is_looked_at_either old new s) changes) (moved_items new s mark mark' numbers) x
         (has_joined brings numbers v x (all v differ) h)
 
     reached_changes : (v : ℕ) (a : Identifier) → new.id_at v ≡ Some a → not (beq (is_some (mark v)) (is_some (mark' v))) ≡ true
-        → Has gathered (One a)
+        → Has gathered_items (One a)
     reached_changes v a i t =
         by_moved v (One a) (λ e. same_not (is_some (mark v)) (is_some (mark' v)) (ap is_some e) t)
         (has_left (cond (not (beq (is_some (mark v)) (is_some (mark' v)))) (item_alone (new.id_at v)) [])
@@ -127,7 +127,7 @@ module _ (tells : BytesTellIdentifiers) (reach : LevelsReach) (expand : LevelsEx
 
     -- the links of a number that walks go on from at one time alone are gathered
     along : (v w : ℕ) (a b : Identifier) (x : Item) → new.id_at v ≡ Some a → new.id_at w ≡ Some b
-        → is_match new.rows s.match_links a b ≡ true → pair_of a b ≡ Some x → turns new s v (mark v) (mark' v) ≡ true → Has gathered x
+        → is_match new.rows s.match_links a b ≡ true → pair_of a b ≡ Some x → turns new s v (mark v) (mark' v) ≡ true → Has gathered_items x
     along v w a b x i j m e t =
         let linked_is : stored_linked (new.id_at v) (new.id_at w) new.rows ≡ stored_between a b new.rows
         = ap (λ o. stored_linked o (new.id_at w) new.rows) i ∙ ap (λ o. stored_linked (Some a) o new.rows) j
@@ -147,7 +147,7 @@ module _ (tells : BytesTellIdentifiers) (reach : LevelsReach) (expand : LevelsEx
         (subst (λ b. Has (cond b (linked_items new s v) []) x) (sym t)
         (has_mapped (λ seen. link_item new s v (Some seen)) (new.links v) there.0 x there.1 at)))
 
-    one_settled : (a : Identifier) → IsIdentifier a → (Has gathered (One a) → ⊥) → is_reached old.rows s a ≡ is_reached new.rows s a
+    one_settled : (a : Identifier) → IsIdentifier a → (Has gathered_items (One a) → ⊥) → is_reached old.rows s a ≡ is_reached new.rows s a
     one_settled a i out = elim (same_or (is_reached old.rows s a) (is_reached new.rows s a)) [
       | inl e ↦ e
       | inr t ↦ absurd (either t)
@@ -171,7 +171,7 @@ module _ (tells : BytesTellIdentifiers) (reach : LevelsReach) (expand : LevelsEx
         ]
 
     end_settled : (v w : ℕ) (a b : Identifier) (x : Item) → new.id_at v ≡ Some a → new.id_at w ≡ Some b
-        → is_match new.rows s.match_links a b ≡ true → pair_of a b ≡ Some x → (Has gathered x → ⊥)
+        → is_match new.rows s.match_links a b ≡ true → pair_of a b ≡ Some x → (Has gathered_items x → ⊥)
         → is_expanded old.rows s a ≡ is_expanded new.rows s a
     end_settled v w a b x i j m e out = elim (same_or (is_expanded old.rows s a) (is_expanded new.rows s a)) [
       | inl f ↦ f
@@ -181,7 +181,7 @@ module _ (tells : BytesTellIdentifiers) (reach : LevelsReach) (expand : LevelsEx
           ∙ ap (λ c. not (beq (is_expanded old.rows s a) c)) (sym q) ∙ t)))
     ]
 
-    pair_settled : (a b : Identifier) → IsCanonItem (Pair a b) → (Has gathered (Pair a b) → ⊥)
+    pair_settled : (a b : Identifier) → IsCanonItem (Pair a b) → (Has gathered_items (Pair a b) → ⊥)
         → is_match old.rows s.match_links a b ≡ is_match new.rows s.match_links a b
         → is_looked_at old.rows s (Pair a b) ≡ is_looked_at new.rows s (Pair a b)
     pair_settled a b i out e = by (is_match new.rows s.match_links a b) refl
@@ -212,13 +212,13 @@ module _ (tells : BytesTellIdentifiers) (reach : LevelsReach) (expand : LevelsEx
         in ap (λ o. one_meets s.match_links (stored_where o old.rows)) p ∙ ap (one_meets s.match_links) (sym e)
         ∙ sym (ap (λ o. one_meets s.match_links (stored_where o new.rows)) p)
 
-    still : (x : Item) → IsCanonItem x → (Has gathered x → ⊥) → stored_on x new.rows ≡ stored_on x old.rows
+    still : (x : Item) → IsCanonItem x → (Has gathered_items x → ⊥) → stored_on x new.rows ≡ stored_on x old.rows
         → is_looked_at old.rows s x ≡ is_looked_at new.rows s x
     still (One a) i out e = one_settled a i.identifiers.0 out
     still (Pair a b) i out e = pair_settled a b i out (match_stays a b i e)
 
     -- what is not gathered tells nothing
-    pub settled : (x : Item) → IsCanonItem x → (Has gathered x → ⊥) → HasNothingToTell old new s x
+    pub settled : (x : Item) → IsCanonItem x → (Has gathered_items x → ⊥) → HasNothingToTell old new s x
     settled x i out = by (change_of changes x) refl
       where
         by : (o : Option ItemChange) → change_of changes x ≡ o → HasNothingToTell old new s x

@@ -23,9 +23,12 @@ pub record IsBoundedSearch (search : the.Search) : Type 0 where
   pub depth : search.max_depth < 2 ^ 32
   pub size : search.max_size ≤ greatest_size
 
--- five levels stand round it: the envelope, its body, the request, the operation and the list
+-- how many levels an element of metadata can have: five stand round it, the envelope, its body, the request, the operation and the list
+abbrev pub metadata_levels : ℕ
+metadata_levels = 59
+
 abbrev pub IsBoundedMetadata : Metadata → Type 0
-IsBoundedMetadata metadata = nesting metadata.element ≤ 59
+IsBoundedMetadata metadata = nesting metadata.element ≤ metadata_levels
 
 abbrev pub IsBoundedPublish : PublishOp → Type 0
 IsBoundedPublish (publish.Update item elements forever) = AllByRecursion IsBoundedMetadata elements

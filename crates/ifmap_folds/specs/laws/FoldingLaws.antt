@@ -85,14 +85,14 @@ module _ (a b : List Entry) (apart : (x y : Entry) → Has a x → Has b y → s
   abbrev entries_gone : List Entry
   entries_gone = difference a b
 
-  abbrev come : List Entry
-  come = difference b a
+  abbrev entries_come : List Entry
+  entries_come = difference b a
 
   abbrev rest : List Entry
   rest = difference a entries_gone
 
-  there : (z : Entry) → Has (with_entries come rest) z → Has b z
-  there z h = elim (with_has come rest z h) [
+  there : (z : Entry) → Has (with_entries entries_come rest) z → Has b z
+  there z h = elim (with_has entries_come rest z h) [
     | inl k ↦ (filter_has (λ e. not (has_entry a e)) b z k).0
     | inr k ↦ let f = filter_has (λ e. not (has_entry entries_gone e)) a z k
         in elim (cases_Bool (has_entry b z)) [
@@ -102,12 +102,12 @@ module _ (a b : List Entry) (apart : (x y : Entry) → Has a x → Has b y → s
         ]
   ]
 
-  back : (z : Entry) → Has b z → Has (with_entries come rest) z
+  back : (z : Entry) → Has b z → Has (with_entries entries_come rest) z
   back z h = elim (cases_Bool (has_entry a z)) [
     | inl t ↦ let x = any_has (same_entry z) a t
         in let same : x.0 ≡ z = apart x.0 z x.1 h (same_turned x.0 z ∙ x.2)
         in let here : Has a z = subst (λ y. Has a y) same x.1
-        in has_kept come rest z
+        in has_kept entries_come rest z
         (has_filter (λ e. not (has_entry entries_gone e)) a z here
         (elim (cases_Bool (has_entry entries_gone z)) [
           | inl u ↦ let w = any_has (same_entry z) entries_gone u
@@ -121,13 +121,13 @@ module _ (a b : List Entry) (apart : (x y : Entry) → Has a x → Has b y → s
               (has_any (same_entry e) a z here (same_turned e z ∙ entries_tie z e ∙ u)))
           | inr u ↦ u
         ])
-    | inr t ↦ has_with come rest z (IsStrictlySortedBy-filter entry_order (λ e. not (has_entry a e)) b next)
+    | inr t ↦ has_with entries_come rest z (IsStrictlySortedBy-filter entry_order (λ e. not (has_entry a e)) b next)
         (has_filter (λ e. not (has_entry a e)) b z h (ap not t))
   ]
 
-  pub next_made : with_entries come rest ≡ b
-  next_made = rising_same entry_order entries_total (with_entries come rest) b
-      (with_rises come rest (IsStrictlySortedBy-filter entry_order (λ e. not (has_entry entries_gone e)) a rises)) next there back
+  pub next_made : with_entries entries_come rest ≡ b
+  next_made = rising_same entry_order entries_total (with_entries entries_come rest) b
+      (with_rises entries_come rest (IsStrictlySortedBy-filter entry_order (λ e. not (has_entry entries_gone e)) a rises)) next there back
 
 -- nothing is taken out
 pub difference_none : (entries : List Entry) → difference entries [] ≡ entries

@@ -16,12 +16,12 @@ use Rattle.ifmap_replies.proofs.notes.read_string.Goals as goal
 abbrev text_inside : Element → Check (List ℕ)
 text_inside e = need (list_all is_text (element_parts e)) Failure (pass (text_among e.children))
 
-abbrev named : Element → Check (List ℕ)
-named e = need (has_only [] e) Failure (text_inside e)
+abbrev string_check : Element → Check (List ℕ)
+string_check e = need (has_only [] e) Failure (text_inside e)
 
 module _ (e : Element) (is : is_bare (codes "errorString") e.name ≡ true) where
-  after_name : (found : Result (List ℕ) Code) → named e found → note_check e found
-  after_name found f = found_after (named e) (is_bare (codes "errorString") e.name) Failure found is f
+  after_name : (found : Result (List ℕ) Code) → string_check e found → note_check e found
+  after_name found f = found_after (string_check e) (is_bare (codes "errorString") e.name) Failure found is f
 
   after_attributes : has_only [] e ≡ true → (found : Result (List ℕ) Code) → text_inside e found → note_check e found
   after_attributes only found f = after_name found (found_after (text_inside e) (has_only [] e) Failure found only f)
@@ -29,7 +29,7 @@ module _ (e : Element) (is : is_bare (codes "errorString") e.name ≡ true) wher
 pub returns-then-not-is_bare : goal.returns-then-not-is_bare
 returns-then-not-is_bare c =
     let e = c.args.element.now in
-    refused_test (named e) (is_bare (codes "errorString") e.name) Failure (sym c.is_bare.ensures ∙ c.if-not-is_bare.true)
+    refused_test (string_check e) (is_bare (codes "errorString") e.name) Failure (sym c.is_bare.ensures ∙ c.if-not-is_bare.true)
 
 pub returns-then-not-has_only : goal.returns-then-not-has_only
 returns-then-not-has_only c =
