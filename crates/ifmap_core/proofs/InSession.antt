@@ -2,7 +2,7 @@
 -- Plan: (1) in the client's own (`module _ .. (own : IsOwner .. (Own serial))`): what a request leads to that changes nothing, then what
 -- one leads to whose change of the parts is made, and its steps; (2) no steps, which are within the bound of each request; (3) in
 -- another's session and in nobody's, where nothing is done.
-use Rattle.std.proofs.Common.{◌≡◌, refl, ◌∙◌, ap, subst, ℕ, ◌<◌, ◌≤◌, Bool, List, [], ◌∷◌, Option, Result, Some}
+use Rattle.std.proofs.Common.{◌≡◌, refl, ◌∙◌, ap, subst, ℕ, ◌<◌, ◌≤◌, Bool, List, [], ◌∷◌, Result, Some}
 use Rattle.std.proofs.lemmas.Result.{IfOk-weaker}
 use Rattle.std.specs.Result.{IfOk}
 use Rattle.ifmap_subscribes.specs.ifmap_changes.Between.{Asking, HasNoSubscriptions, IsSoundSoFar, IsSteady, sessions_left, state_now}

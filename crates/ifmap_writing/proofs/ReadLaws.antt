@@ -6,7 +6,7 @@
 -- 5. Operations.
 -- 6. Requests.
 use Rattle.std.proofs.Common.{◌≡◌, ◌∙◌, ◌+◌, ◌≤◌, ℕ, true, false, List, [], ◌∷◌, Option, None, Some, IfSome}
-use Rattle.std.proofs.Common.{codes, map, refl, ap, sym, subst}
+use Rattle.std.proofs.Common.{codes, map, refl, sym, subst}
 use Rattle.std.specs.List.{AllByRecursion}
 use Rattle.ifmap_elem.specs.Building.{bare_name, is_bare, as_children}
 use Rattle.ifmap_elem.specs.declared.elements.Child.{Child}

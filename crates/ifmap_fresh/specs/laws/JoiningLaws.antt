@@ -75,17 +75,17 @@ module _ (rows : List Attachment) (id_at : ℕ → Option Identifier) (links : �
   abbrev pub Matches : ℕ → ℕ → Type 0
   Matches v w = one_meets filter (stored_linked (id_at v) (id_at w) rows) ≡ true
 
-  ended : (v w : ℕ) (seen : Option LinkSeen) → end_where rows id_at filter v seen ≡ Some w → Matches v w
-  ended v w None e = absurd (none-some w e)
-  ended v w (Some seen) e = taken (one_meets filter (stored_linked (id_at v) (id_at seen.other) rows)) refl e
+  end_matches : (v w : ℕ) (seen : Option LinkSeen) → end_where rows id_at filter v seen ≡ Some w → Matches v w
+  end_matches v w None e = absurd (none-some w e)
+  end_matches v w (Some seen) e = match_of_end (one_meets filter (stored_linked (id_at v) (id_at seen.other) rows)) refl e
     where
-      taken : (b : Bool) → one_meets filter (stored_linked (id_at v) (id_at seen.other) rows) ≡ b
+      match_of_end : (b : Bool) → one_meets filter (stored_linked (id_at v) (id_at seen.other) rows) ≡ b
           → cond b (Some seen.other) None ≡ Some w → Matches v w
-      taken true is k = subst (λ x. Matches v x) (same_Some seen.other w k) is
-      taken false is k = absurd (none-some w k)
+      match_of_end true is k = subst (λ x. Matches v x) (same_Some seen.other w k) is
+      match_of_end false is k = absurd (none-some w k)
 
   pub linked_matches : (v w : ℕ) → Linked count link v w → Matches v w
-  linked_matches v w l = ended v w (slice_get (links v) l.0) l.2
+  linked_matches v w l = end_matches v w (slice_get (links v) l.0) l.2
 
   module _ (is : IsView rows id_at links) where
     pub matches_linked : (v w : ℕ) → Matches v w → Linked count link v w

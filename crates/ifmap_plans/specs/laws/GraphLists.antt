@@ -26,21 +26,21 @@ module _ (x : Item) where
     | inr is ↦ rw is (all_of P Q h rows a.1)
   ]
 
-  ordered : (r s : Attachment) → same_item r.item x ≡ true → same_item s.item x ≡ true → attachment_order r s ≡ Less
+  order_on : (r s : Attachment) → same_item r.item x ≡ true → same_item s.item x ≡ true → attachment_order r s ≡ Less
       → stored_order r.stored s.stored ≡ Less
-  ordered r s i j e =
+  order_on r s i j e =
       ap (λ o. ordering_then o (stored_order r.stored s.stored)) (sym (same_equal r.item s.item (told_as x r.item s.item j ∙ i))) ∙ e
 
-  keyed : (r s : Attachment) → same_item r.item x ≡ true → same_item s.item x ≡ true → of_one_key r s ≡ false
+  keys_differ_on : (r s : Attachment) → same_item r.item x ≡ true → same_item s.item x ≡ true → of_one_key r s ≡ false
       → same_key r.stored s.stored ≡ false
-  keyed r s i j e = ap (λ b. b && same_key r.stored s.stored) (sym (told_as x r.item s.item j ∙ i)) ∙ e
+  keys_differ_on r s i j e = ap (λ b. b && same_key r.stored s.stored) (sym (told_as x r.item s.item j ∙ i)) ∙ e
 
   rising_on : (rows : List Attachment) → IsStrictlySortedBy attachment_order rows → IsStrictlySortedBy stored_order (stored_on x rows)
   unfolding IsStrictlySortedBy
   rising_on [] up = tt
   rising_on (r ∷ rows) up = elim (cases_Bool (same_item r.item x)) [
     | inl is ↦ rw is (
-      all_of (λ s. stored_order r.stored s ≡ Less) (λ s. attachment_order r s ≡ Less) (λ s j e. ordered r s is j e) rows up.0,
+      all_of (λ s. stored_order r.stored s ≡ Less) (λ s. attachment_order r s ≡ Less) (λ s j e. order_on r s is j e) rows up.0,
       rising_on rows up.1,
     )
     | inr is ↦ rw is (rising_on rows up.1)
@@ -51,7 +51,7 @@ module _ (x : Item) where
   keys_on [] d = tt
   keys_on (r ∷ rows) d = elim (cases_Bool (same_item r.item x)) [
     | inl is ↦ rw is (
-      all_of (λ s. same_key r.stored s ≡ false) (λ s. of_one_key r s ≡ false) (λ s j e. keyed r s is j e) rows d.0,
+      all_of (λ s. same_key r.stored s ≡ false) (λ s. of_one_key r s ≡ false) (λ s j e. keys_differ_on r s is j e) rows d.0,
       keys_on rows d.1,
     )
     | inr is ↦ rw is (keys_on rows d.1)
