@@ -4,7 +4,7 @@
 -- 3. One identifier (`one_settled`).
 -- 4. One link (`pair_settled`).
 use Rattle.std.proofs.Common.{◌≡◌, ◌≢◌, ◌⊎◌, inl, inr, ℕ, Bool, true, false, cond, not, ◌&&◌, ◌||◌, Option, Some, None, List, [], ◌++◌}
-use Rattle.std.proofs.Common.{is_some, unwrap_or, refl, ap, ◌∙◌, sym, subst}
+use Rattle.std.proofs.Common.{is_some, option_and_then, unwrap_or, refl, ap, ◌∙◌, sym, subst}
 use Rattle.std.proofs.Math.Bool.{beq}
 use Rattle.std.proofs.lemmas.Bool.{cases_Bool}
 use Rattle.std.proofs.lemmas.Option.{none-some, same_Some}
@@ -34,7 +34,7 @@ use Rattle.ifmap_fresh.specs.Reached.{is_expanded, is_reached}
 use Rattle.ifmap_delta.specs.Changes.{ShowsAfter}
 use Rattle.ifmap_delta.specs.Shown.{goes_on}
 use Rattle.ifmap_delta.specs.Sights.{AreMarks, ViewSeen}
-use Rattle.ifmap_delta.specs.Touched.{HasNothingToTell, brought_items, link_item, pair_item, is_looked_at_either, linked_items, moved_items, planned_items, turns}
+use Rattle.ifmap_delta.specs.Touched.{HasNothingToTell, brought_items, link_item, is_looked_at_either, linked_items, moved_items, planned_items, turns}
 use Rattle.ifmap_delta.proofs.Flipping.{change_at, unchanged}
 use Rattle.ifmap_fresh.specs.laws.JoiningLaws.{match_turned, some_if_met}
 use Rattle.ifmap_delta.proofs.Marking.{LevelsExpand, LevelsReach, expanded_is, expanded_marked, mark_named, marked_expanded}
@@ -136,7 +136,7 @@ module _ (tells : BytesTellIdentifiers) (reach : LevelsReach) (expand : LevelsEx
         in let there = map_has (λ (l : LinkSeen). l.other) (new.links v) w
         (has_from _ w (is.each v w (some_if_met s.match_links (stored_linked (new.id_at v) (new.id_at w) new.rows) matches)))
         in let at : link_item new s v (Some there.0) ≡ Some x
-        = ap (λ b. pair_item new s v (cond b (Some there.0.other) None))
+        = ap (λ b. option_and_then (λ (w : ℕ). pair_at (new.id_at v) (new.id_at w)) (cond b (Some there.0.other) None))
         (ap (λ y. one_meets s.match_links (stored_linked (new.id_at v) (new.id_at y) new.rows)) there.2 ∙ matches)
         ∙ ap (λ y. pair_at (new.id_at v) (new.id_at y)) there.2
         ∙ ap (λ o. pair_at o (new.id_at w)) i ∙ ap (λ o. pair_at (Some a) o) j ∙ e
@@ -251,7 +251,8 @@ module _ (old new : ViewSeen) (s : Search) (is : IsView new.rows new.id_at new.l
   ends_canon v w (Some a) None x i j q = absurd (none-some x q)
   ends_canon v w (Some a) (Some b) x i j q = pair_canon a b x (is.canon v a i) (is.canon w b j) q
 
-  along_canon : (v : ℕ) (o : Option ℕ) (x : Item) → pair_item new s v o ≡ Some x → IsCanonItem x
+  along_canon : (v : ℕ) (o : Option ℕ) (x : Item) → option_and_then (λ (w : ℕ). pair_at (new.id_at v) (new.id_at w)) o ≡ Some x
+      → IsCanonItem x
   along_canon v None x q = absurd (none-some x q)
   along_canon v (Some w) x q = ends_canon v w (new.id_at v) (new.id_at w) x refl refl q
 

@@ -1,7 +1,7 @@
 -- The items on which a change may tell something, as they are gathered. No public clause cites this
 -- module.
 use Rattle.std.specs.Prelude.{◌≡◌, ℕ, Bool, true, false, ◌&&◌, ◌||◌, not, List, [], ◌++◌, length, map, Option, None, Some}
-use Rattle.std.specs.Prelude.{drop, is_some, if◌then◌else◌, slice_get}
+use Rattle.std.specs.Prelude.{drop, is_some, if◌then◌else◌, option_and_then, slice_get}
 use Rattle.std.specs.List.{filter, filter_map, flat_map}
 use Rattle.std.specs.List.Sorted.{IsStrictlySortedBy}
 use Rattle.std.proofs.Math.Bool.{beq}
@@ -39,12 +39,9 @@ is_looked_at_either old new s x = is_looked_at old.rows s x || is_looked_at new.
 
 module _ (new : ViewSeen) (s : Search) where
   -- the item of a link, where there is one
-  abbrev pub pair_item : ℕ → Option ℕ → Option Item
-  pair_item v None = None
-  pair_item v (Some w) = pair_at (new.id_at v) (new.id_at w)
-
   abbrev pub link_item : ℕ → Option LinkSeen → Option Item
-  link_item v seen = pair_item v (end_where new.rows new.id_at s.match_links v seen)
+  link_item v seen =
+      option_and_then (λ (w : ℕ). pair_at (new.id_at v) (new.id_at w)) (end_where new.rows new.id_at s.match_links v seen)
 
   -- the items of the matching links of a number
   abbrev pub linked_items : ℕ → List Item

@@ -8,7 +8,7 @@
 -- 4. Entries item by item are a filtered list of attachments (`entries_gathered`).
 -- 5. So what stands on the items and meets the filter is the result (`entries_are`).
 use Rattle.std.proofs.Common.{◌≡◌, ◌≢◌, ℕ, ◌<◌, Bool, true, false, cond, not, ◌&&◌, ◌||◌, Option, Some, None, List, [], ◌∷◌}
-use Rattle.std.proofs.Common.{◌++◌, map, nat_lt, refl, ap, ◌∙◌, sym, subst, inl, inr, arith}
+use Rattle.std.proofs.Common.{◌++◌, map, nat_lt, option_and_then, refl, ap, ◌∙◌, sym, subst, inl, inr, arith}
 use Rattle.std.proofs.lemmas.Bool.{and_parts, cases_Bool, lt-ltb, ltb-true, not-true, or_cases, or_right}
 use Rattle.std.proofs.lemmas.List.{map-append}
 use Rattle.std.proofs.lemmas.List.Elements.{filter-append}
@@ -33,7 +33,7 @@ use Rattle.ifmap_view.specs.declared.views.LinkSeen.{LinkSeen}
 use Rattle.ifmap_view.specs.Attachments.{IsGraph, row_on}
 use Rattle.ifmap_view.specs.Rows.{stored_between, stored_linked, stored_on}
 use Rattle.ifmap_view.specs.Views.{IsView}
-use Rattle.ifmap_fresh.specs.Collected.{AreLookedAt, is_below, is_passed, item_along, item_to, item_where, items_of_number, items_of_numbers}
+use Rattle.ifmap_fresh.specs.Collected.{AreLookedAt, is_below, is_passed, item_along, item_to, items_of_number, items_of_numbers}
 use Rattle.ifmap_fresh.specs.Fresh.{fresh, is_found, is_looked_at}
 use Rattle.ifmap_fresh.specs.Gathered.{entries_of, entries_on, stored_entry, gathered_rows, has_item}
 use Rattle.ifmap_fresh.specs.Items.{item_alone, pair_at}
@@ -116,7 +116,8 @@ module _ (tells : BytesTellIdentifiers) (rows : List Attachment) (id_at : ℕ �
       by_lesser false m q = by_ends (id_at v) (id_at seen.other) refl refl m q
 
       by_match : (c : Bool) → one_meets s.match_links (stored_linked (id_at v) (id_at seen.other) rows) ≡ c
-          → item_where rows id_at links s mark v (cond c (Some seen.other) None) ≡ Some item → is_looked_at rows s item ≡ true
+          → option_and_then (item_to rows id_at links s mark v) (cond c (Some seen.other) None) ≡ Some item
+          → is_looked_at rows s item ≡ true
       by_match true m q = by_lesser (nat_lt seen.other v && is_crossed seen.other) m q
       by_match false m q = absurd (none-some item q)
 
@@ -170,7 +171,7 @@ module _ (tells : BytesTellIdentifiers) (rows : List Attachment) (id_at : ℕ �
       lesser v w true q = absurd (none-some item q)
       lesser v w false q = ends v w (id_at v) (id_at w) refl refl q
 
-      along : (v : ℕ) (o : Option ℕ) → item_where rows id_at links s mark v o ≡ Some item → IsCanonItem item
+      along : (v : ℕ) (o : Option ℕ) → option_and_then (item_to rows id_at links s mark v) o ≡ Some item → IsCanonItem item
       along v None q = absurd (none-some item q)
       along v (Some w) q = lesser v w (nat_lt w v && is_crossed w) q
 
@@ -192,7 +193,7 @@ module _ (tells : BytesTellIdentifiers) (rows : List Attachment) (id_at : ℕ �
       in let there = map_has (λ (l : LinkSeen). l.other) (links v) w
       (has_from _ w (is.each v w (some_if_met s.match_links (stored_linked (id_at v) (id_at w) rows) matches)))
       in let along : item_along rows id_at links s mark v there.0 ≡ Some item
-      = ap (λ b. item_where rows id_at links s mark v (cond b (Some there.0.other) None))
+      = ap (λ b. option_and_then (item_to rows id_at links s mark v) (cond b (Some there.0.other) None))
       (ap (λ x. one_meets s.match_links (stored_linked (id_at v) (id_at x) rows)) there.2 ∙ matches)
       ∙ ap (λ x. item_to rows id_at links s mark v x) there.2
       ∙ ap (λ b. cond b None (pair_at (id_at v) (id_at w))) first

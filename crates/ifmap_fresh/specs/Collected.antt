@@ -1,6 +1,6 @@
 -- The items that a search looks at, number by number. No public clause cites this module.
 use Rattle.std.specs.Prelude.{◌≡◌, ◌≢◌, true, ℕ, Bool, false, not, ◌&&◌, List, [], ◌++◌, Option, None, Some, map, nat_lt}
-use Rattle.std.specs.Prelude.{if◌then◌else◌}
+use Rattle.std.specs.Prelude.{if◌then◌else◌, option_and_then}
 use Rattle.std.specs.List.{cons_option, filter_map, flat_map}
 use Rattle.std.specs.List.Sorted.{IsStrictlySortedBy}
 use Rattle.ifmap_ident.specs.declared.identifiers.Identifier.{Identifier}
@@ -39,13 +39,9 @@ module _ (rows : List Attachment) (id_at : ℕ → Option Identifier) (links : �
   abbrev pub item_to : ℕ → ℕ → Option Item
   item_to v w = if nat_lt w v && is_passed w then None else pair_at (id_at v) (id_at w)
 
-  abbrev pub item_where : ℕ → Option ℕ → Option Item
-  item_where v None = None
-  item_where v (Some w) = item_to v w
-
   -- the item that a link of a number brings, where there is one
   abbrev pub item_at : ℕ → Option LinkSeen → Option Item
-  item_at v seen = item_where v (end_where rows id_at s.match_links v seen)
+  item_at v seen = option_and_then (item_to v) (end_where rows id_at s.match_links v seen)
 
   abbrev pub item_along : ℕ → LinkSeen → Option Item
   item_along v seen = item_at v (Some seen)
