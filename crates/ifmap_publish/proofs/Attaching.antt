@@ -7,12 +7,13 @@ use Rattle.std.specs.List.{filter}
 use Rattle.std.specs.Ordering.{is_gt, is_lt}
 use Rattle.ifmap_lemmas.specs.Filters.{all_around, all_filter, all_weaker, filter_passes}
 use Rattle.ifmap_meta.specs.declared.metadata.Metadata.{Metadata}
+use Rattle.ifmap_meta.specs.declared.stored.Life.{Life}
 use Rattle.ifmap_meta.specs.declared.stored.Stored.{Stored}
 use Rattle.ifmap_meta.specs.Keys.{same_key}
 use Rattle.ifmap_meta.specs.Whole.{IsWhole}
 use Rattle.ifmap_rows.specs.ifmap_plans.laws.ListLaws.{list_filter, list_put}
 use Rattle.ifmap_view.specs.Attachments.{stored_order}
-use Rattle.ifmap_publish.specs.Apply.{Authorship, stored_of}
+use Rattle.ifmap_publish.specs.Apply.{Authorship, stored_for, stored_of}
 use Rattle.ifmap_publish.specs.OnItems.{attach_all, attach_on, update_on}
 use Rattle.ifmap_publish.specs.Working.{IsSound}
 
@@ -56,10 +57,10 @@ attached_as_stored by forever [] list = refl
 attached_as_stored by forever (m ∷ ms) list = attached_as_stored by forever ms (attach_on list (stored_of by forever m))
 
 -- one element more as it is stored
-pub stored_more : (by : Authorship) (forever : Bool) (ms : List Metadata) (i : ℕ) (m : Metadata) (row : Stored) (made : List Stored)
-    → i < length ms → m ≡ get_or ms i m → row ≡ stored_of by forever m → made ≡ map (stored_of by forever) (take i ms)
-    → made ++ row ∷ [] ≡ map (stored_of by forever) (take (i + 1) ms)
-stored_more by forever ms i m row made low at is so =
+pub stored_more : (by : Authorship) (life : Life) (ms : List Metadata) (i : ℕ) (m : Metadata) (row : Stored) (made : List Stored)
+    → i < length ms → m ≡ get_or ms i m → row ≡ stored_for by life m → made ≡ map (stored_for by life) (take i ms)
+    → made ++ row ∷ [] ≡ map (stored_for by life) (take (i + 1) ms)
+stored_more by life ms i m row made low at is so =
     (λ k. so k ++ is k ∷ [])
-    ∙ ap (λ (n : Metadata). map (stored_of by forever) (take i ms) ++ stored_of by forever n ∷ []) at
-    ∙ sym (map_more (stored_of by forever) ms i m low)
+    ∙ ap (λ (n : Metadata). map (stored_for by life) (take i ms) ++ stored_for by life n ∷ []) at
+    ∙ sym (map_more (stored_for by life) ms i m low)

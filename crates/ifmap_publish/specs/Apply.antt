@@ -27,9 +27,13 @@ abbrev pub life_of : ℕ → Bool → Life
 life_of serial true = the_life.Forever
 life_of serial false = the_life.Session serial
 
--- what is stored of an element: with its author's stamps
+-- what is stored of an element that is to stay so long: with its author's stamps
+abbrev pub stored_for : Authorship → Life → Metadata → Stored
+stored_for by life m = stored_as m.element by.client by.moment life
+
+-- what is stored of it, as long as is asked
 abbrev pub stored_of : Authorship → Bool → Metadata → Stored
-stored_of by forever m = stored_as m.element by.client by.moment (life_of by.serial forever)
+stored_of by forever = stored_for by (life_of by.serial forever)
 
 -- an element as it is attached
 abbrev pub attachment_of : Authorship → Item → Bool → Metadata → Attachment

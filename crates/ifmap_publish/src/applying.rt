@@ -6,7 +6,7 @@ ghost use Rattle.ifmap_rows.specs.ifmap_plans.Plans.{AreWhole};
 ghost use Rattle.ifmap_requests.specs.Fit.{IsFitOp};
 ghost use Rattle.ifmap_view.specs.Attachments.{IsGraph};
 ghost use Rattle.ifmap_view.specs.Rows.{stored_on};
-ghost use Rattle.ifmap_publish.specs.Apply.{life_of, stored_of};
+ghost use Rattle.ifmap_publish.specs.Apply.{life_of, stored_for};
 ghost use Rattle.ifmap_publish.specs.OnItems.{op_item, op_on};
 ghost use Rattle.ifmap_publish.specs.Working.{EditMakes, IsEdit, list_by};
 
@@ -52,7 +52,8 @@ pub(crate) fn apply_op<V: Keyed>(
             elements,
             forever,
         } => {
-            let rows = rows_of_elements(alloc, author, *forever, &elements.0)?;
+            let life = life_of(author.serial, *forever);
+            let rows = rows_of_elements(alloc, author, life, &elements.0)?;
             attach_each(alloc, view, item, &rows, edit)?;
             Ok(())
         }
@@ -76,17 +77,17 @@ fn life_of(serial: u64, forever: bool) -> Life
 fn rows_of_elements(
     alloc: Global,
     author: &Author,
-    forever: bool,
+    life: Life,
     elements: &[Metadata],
 ) -> Result<Vec<Row>, NoMemory>
     requires { AllByRecursion IsMetadata elements.now }
     ensures rows { IfOk result (λ rows.
-        rows.items ≡ map (stored_of author.now forever) elements.now) }
+        rows.items ≡ map (stored_for author.now life) elements.now) }
     ensures whole { IfOk result (λ rows. AllByRecursion IsWhole rows.items) }
 {
     let mut rows = Vec::with_capacity(alloc, elements.len())?;
     for metadata in elements {
-        rows.push(row_of_element(alloc, author, forever, metadata)?)?;
+        rows.push(row_of_element(alloc, author, life, metadata)?)?;
     }
     Ok(rows)
 }
@@ -95,13 +96,12 @@ fn rows_of_elements(
 fn row_of_element(
     alloc: Global,
     author: &Author,
-    forever: bool,
+    life: Life,
     metadata: &Metadata,
 ) -> Result<Row, NoMemory>
-    ensures row { IfOk result (λ row. row ≡ stored_of author.now forever metadata.now) }
+    ensures row { IfOk result (λ row. row ≡ stored_for author.now life metadata.now) }
     ensures whole { IsMetadata metadata.now → IfOk result IsWhole }
 {
-    let life = life_of(author.serial, forever);
     Row::new(
         alloc,
         metadata.stamp(alloc, author.client, author.moment, life)?,

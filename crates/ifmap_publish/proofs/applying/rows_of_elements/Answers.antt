@@ -9,7 +9,7 @@ use Rattle.ifmap_publish.proofs.applying.rows_of_elements.Goals as goal
 pub loop-metadata-preserved : goal.loop-metadata-preserved
 loop-metadata-preserved c = record {
   rows = c.in_ok-push.ensures.items
-      ∙ stored_more c.args.author.now c.args.forever c.args.elements.now c.loop-metadata.metadata-index c.metadata-item.result
+      ∙ stored_more c.args.author.now c.args.life c.args.elements.now c.loop-metadata.metadata-index c.metadata-item.result
       c.in_ok-row_of_element.field-0 c.loop-metadata.rows.items c.loop-metadata-test.true c.metadata-item.is
       c.in_ok-row_of_element.ensures.row c.loop-metadata.invariant.rows;
   whole = subst (AllByRecursion IsWhole) (sym c.in_ok-push.ensures.items)
