@@ -17,6 +17,7 @@ AreSoMany n P =
     (ids : List Identifier) × IsDistinct same_identifier ids × (length ids ≡ n)
     × ((a : Identifier) → (Has ids a → P a) × (P a → Has ids a))
 
+-- the item is a link
 abbrev pub is_link : Item → Bool
 is_link (One a) = false
 is_link (Pair a b) = true
