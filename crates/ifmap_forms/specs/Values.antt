@@ -1,5 +1,5 @@
 -- What the values of attributes mean: the attributes of requests in the IF-MAP binding for SOAP, version 2.2, section 3.
-use Rattle.std.specs.Prelude.{ℕ, ◌^◌, Bool, true, false, not, ◌&&◌, nat_le, nat_lt, min, max, List, [], ◌∷◌, codes, length, reverse, Option, None, Some, Ok, Err}
+use Rattle.std.specs.Prelude.{ℕ, ◌^◌, Bool, true, false, not, ◌&&◌, nat_le, nat_lt, min, max, if◌then◌else◌, List, [], ◌∷◌, codes, length, reverse, Option, None, Some, Ok, Err}
 use Rattle.std.specs.List.{find, list_all}
 use Rattle.std.specs.Char.{is_ascii_digit}
 use Rattle.std.specs.Str.{bytes_eq}
