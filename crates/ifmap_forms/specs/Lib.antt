@@ -7,6 +7,7 @@ pub mod Tables
 pub mod Items
 pub mod Gathering
 pub mod SingleLaws
+pub mod DoneLaws
 pub mod ListLaws
 pub mod AnswerLaws
 pub mod PositionLaws

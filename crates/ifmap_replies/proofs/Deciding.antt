@@ -1,13 +1,11 @@
 -- Each check of a reply finds something: a value or a defect. So a response has a reply or none.
--- Plan: (1) identifiers by the laws of their crates; (2) tables of attributes, children and forms: where each of their parts finds
--- a value or a defect, so does the whole; (3) values of attributes; (4) results and responses, part by part; (5) envelopes, and so
--- bodies (`reply_or_none`).
-use Rattle.std.proofs.Common.{◌⊎◌, ◌+◌, ◌++◌, ℕ, List, [], ◌∷◌, Option, None, Some, Result, Ok, Err, codes, inl, inr}
+-- Plan: (1) identifiers, tables of attributes, children and forms by the laws of their crates: where each of their parts finds a value
+-- or a defect, so does the whole; (2) values of attributes; (3) results and responses, part by part; (4) envelopes, and so bodies
+-- (`reply_or_none`).
+use Rattle.std.proofs.Common.{◌⊎◌, ℕ, List, [], Option, None, Some, Result, Ok, Err, codes, inl, inr}
 use Rattle.std.specs.List.{list_all}
 use Rattle.ifmap_elem.specs.Arranged.{arrange}
 use Rattle.ifmap_elem.specs.Building.{is_bare, is_name}
-use Rattle.ifmap_elem.specs.Chars.{is_white}
-use Rattle.ifmap_elem.specs.declared.elements.Child.TheOpen.{Child-F}
 use Rattle.ifmap_elem.specs.declared.elements.Element.{Element}
 use Rattle.ifmap_envelopes.specs.Envelopes.{IsEnvelope}
 use Rattle.ifmap_forms.specs.ifmap_filter.Holding.{text_among}
@@ -18,12 +16,11 @@ use Rattle.ifmap_ident.specs.Parts.{has_only, value_of}
 use Rattle.ifmap_ident.specs.ifmap_reader.declared.scoping.Scope.{Scope}
 use Rattle.ifmap_forms.specs.CheckLaws.{fail_done, need_done, pass_done, some_done, then_done, word_check_done}
 use Rattle.ifmap_forms.specs.Checks.{Check, IsConclusive, check_then, need, need_some, pass}
-use Rattle.ifmap_forms.specs.Items.{before_list, from_list, identifier_check, identifiers_check, item_of, list_if_there, list_check}
-use Rattle.ifmap_forms.specs.Scopes.{Scopes}
-use Rattle.ifmap_elem.specs.WhiteSpace.{is_blank_part}
-use Rattle.ifmap_forms.specs.Tables.{ContentCheck, ElementForm, Part, AttributeTable, table_with, both, each_element, form_check, no_attributes}
-use Rattle.ifmap_forms.specs.Tables.{members_check, no_children, element_parts, only_member, read_form}
-use Rattle.ifmap_forms.specs.Values.{Field, field_check, publisher_field, read_text, session_field, text_field}
+use Rattle.ifmap_forms.specs.DoneLaws.{beside_done, list_at_done, made_done, members_done, no_attributes_done, no_children_done}
+use Rattle.ifmap_forms.specs.DoneLaws.{read_text_done}
+use Rattle.ifmap_forms.specs.Items.{before_list, from_list, identifier_check, identifiers_check, item_of, list_if_there}
+use Rattle.ifmap_forms.specs.Tables.{AttributeTable, Part, element_parts, form_check, members_check, no_attributes, only_member, table_with}
+use Rattle.ifmap_forms.specs.Values.{Field, publisher_field, session_field, text_field}
 use Rattle.ifmap_forms.specs.IdentifierLaws.{identifier_done, identifiers_done}
 use Rattle.ifmap_replies.specs.declared.kinds.PollKind.{PollKind}
 use Rattle.ifmap_replies.specs.declared.kinds.PollKind.TheVariants as told
@@ -43,7 +40,7 @@ use Rattle.ifmap_replies.specs.ResultForms.{run_parts, told_error_form, told_err
 use Rattle.ifmap_replies.specs.Results.{response_name}
 use Rattle.ifmap_replies.specs.Runs.{entries_in_runs, run_on}
 
--- ---- tables, children, forms
+-- ---- tables, and a member alone
 
 abbrev SomeOfField : {X : Type 0} → Field X → Type 0
 SomeOfField field = (scope : Scope) (text : Option (List ℕ)) → IsConclusive (field.reads scope text)
@@ -51,76 +48,17 @@ SomeOfField field = (scope : Scope) (text : Option (List ℕ)) → IsConclusive 
 abbrev SomeOfTable : {X : Type 0} → AttributeTable X → Type 0
 SomeOfTable table = (scope : Scope) (e : Element) → IsConclusive (table.reads scope e)
 
-abbrev SomeOfContent : {X : Type 0} → ContentCheck X → Type 0
-SomeOfContent content = (scopes : Scopes) (parts : List Part) → IsConclusive (content scopes parts)
-
 module _ {X Y : Type 0} (field : Field X) (table : AttributeTable Y) where
-  beside_done : SomeOfField field → SomeOfTable table → SomeOfTable (table_with field table)
-  beside_done f t scope e =
-      then_done (field_check field scope e) (λ x. check_then (table.reads scope e) (λ y. pass (both x y)))
-      (λ x is. then_done (table.reads scope e) (λ y. pass (both x y)) (λ y there. pass_done (both x y)) (t scope e))
-      (f scope (value_of field.local e))
-
-module _ {A C : Type 0} (form : ElementForm A C) where
-  form_done : SomeOfTable form.attributes → SomeOfContent form.content → (scopes : Scopes) (e : Element) → IsConclusive
-      (read_form form scopes e)
-  form_done t s scopes e =
-      then_done (form.attributes.reads (scopes []) e)
-      (λ a. need (has_only (form.passed_over ++ form.attributes.locals) e) Failure
-      (check_then (form.content scopes (element_parts e)) (λ c. pass (both a c))))
-      (λ a is. need_done (has_only (form.passed_over ++ form.attributes.locals) e) Failure
-      (check_then (form.content scopes (element_parts e)) (λ c. pass (both a c)))
-      (then_done (form.content scopes (element_parts e)) (λ c. pass (both a c)) (λ c there. pass_done (both a c))
-      (s scopes (element_parts e))))
-      (t (scopes []) e)
-
-module _ {X A C : Type 0} (form : ElementForm A C) (make : A → C → X) where
-  made_done : SomeOfTable form.attributes → SomeOfContent form.content → (scopes : Scopes) (e : Element)
-      → IsConclusive (form_check form make scopes e)
-  made_done t s scopes e =
-      then_done (read_form form scopes e) (λ x. pass (make x.first x.others)) (λ x is. pass_done (make x.first x.others))
-      (form_done form t s scopes e)
+  table_done : SomeOfField field → SomeOfTable table → SomeOfTable (table_with field table)
+  table_done f t scope e = beside_done field table scope e (f scope (value_of field.local e)) (t scope e)
 
 module _ {X : Type 0} (one : Element → Check X) (s : (e : Element) → IsConclusive (one e)) where
-  each_done : (index : ℕ) (parts : List Part) → IsConclusive (each_element (λ n e. one e) index parts)
-  each_done index [] = pass_done []
-  each_done index (Child-F.Element e ∷ parts) =
-      then_done (one e) (λ x. check_then (each_element (λ n e. one e) (index + 1) parts) (λ xs. pass (x ∷ xs)))
-      (λ x is. then_done (each_element (λ n e. one e) (index + 1) parts) (λ xs. pass (x ∷ xs)) (λ xs there. pass_done (x ∷ xs))
-      (each_done (index + 1) parts))
-      (s e)
-  each_done index (Child-F.Text text ∷ parts) =
-      need_done (list_all is_white text) Failure (each_element (λ n e. one e) (index + 1) parts) (each_done (index + 1) parts)
-
-  members_done : (parts : List Part) → IsConclusive (members_check one parts)
-  members_done parts = each_done 0 parts
-
   only_done : (parts : List Part) → IsConclusive (only_check one parts)
   only_done parts =
       then_done (members_check one parts) (λ xs. need_some Failure (only_member xs) (λ x. pass x))
-      (λ xs is. some_done Failure (only_member xs) (λ x. pass x) (λ x. pass_done x)) (members_done parts)
-
-  list_done : (e : Element) → IsConclusive (list_check one e)
-  list_done e = need_done (has_only [] e) Failure (members_check one (element_parts e)) (members_done (element_parts e))
-
-  list_at_done : (parts : List Part) → IsConclusive (list_if_there one parts)
-  list_at_done [] = pass_done None
-  list_at_done (Child-F.Element e ∷ after) =
-      then_done (list_check one e) (λ xs. need (list_all is_blank_part after) Failure (pass (Some xs)))
-      (λ xs is. need_done (list_all is_blank_part after) Failure (pass (Some xs)) (pass_done (Some xs))) (list_done e)
-  list_at_done (Child-F.Text text ∷ after) = fail_done Failure
-
-no_attributes_done : SomeOfTable no_attributes
-no_attributes_done scope e = pass_done tt
-
-no_children_done : SomeOfContent no_children
-no_children_done scopes parts = need_done (list_all is_blank_part parts) Failure (pass tt) (pass_done tt)
+      (λ xs is. some_done Failure (only_member xs) (λ x. pass x) (λ x. pass_done x)) (members_done one s parts)
 
 -- ---- values
-
-text_done : (scope : Scope) (text : Option (List ℕ)) → IsConclusive (read_text text)
-text_done scope None = fail_done Failure
-text_done scope (Some text) = pass_done text
 
 word_done : (scope : Scope) (text : Option (List ℕ)) → IsConclusive (read_word text)
 word_done scope None = fail_done Failure
@@ -156,7 +94,7 @@ module _ (identifier_some : (e : Element) → IsConclusive (identifier_check e))
   run_done : (e : Element) → IsConclusive (run_check e)
   run_done e =
       need_done (is_bare (codes "resultItem") e.name) Failure (form_check run_form run_made no_scopes e)
-      (made_done run_form run_made no_attributes_done (λ scopes. run_parts_done) no_scopes e)
+      (made_done run_form run_made no_scopes e (no_attributes_done (no_scopes []) e) (run_parts_done (element_parts e)))
 
   entries_done : (parts : List Part) → IsConclusive (entries_check parts)
   entries_done parts =
@@ -165,39 +103,44 @@ module _ (identifier_some : (e : Element) → IsConclusive (identifier_check e))
 
   poll_kind_done : (kind : PollKind) (e : Element) → IsConclusive (poll_kind_check kind e)
   poll_kind_done (told.Entries kind) e =
-      made_done (told_form kind) (told_made kind) (beside_done (text_field (codes "name")) no_attributes text_done no_attributes_done)
-      (λ scopes. entries_done) no_scopes e
+      made_done (told_form kind) (told_made kind) no_scopes e
+      (table_done (text_field (codes "name")) no_attributes read_text_done no_attributes_done (no_scopes []) e)
+      (entries_done (element_parts e))
   poll_kind_done told.Error e =
-      made_done told_error_form told_error_made
-      (beside_done code_field (table_with (optional_field (codes "name")) no_attributes) code_done
-      (beside_done (optional_field (codes "name")) no_attributes optional_done no_attributes_done))
-      (λ scopes. only_done note_check note_done) no_scopes e
+      made_done told_error_form told_error_made no_scopes e
+      (table_done code_field (table_with (optional_field (codes "name")) no_attributes) code_done
+      (table_done (optional_field (codes "name")) no_attributes optional_done no_attributes_done) (no_scopes []) e)
+      (only_done note_check note_done (element_parts e))
 
   poll_done : (e : Element) → IsConclusive (poll_check e)
   poll_done e = some_done Failure (poll_kind_of e.name) (λ kind. poll_kind_check kind e) (λ kind. poll_kind_done kind e)
 
   plain_done : (kind : ResultKind) (answer : Reply) (e : Element) → IsConclusive (plain_check kind answer e)
-  plain_done kind answer e = made_done (plain_form kind) (plain_made answer) no_attributes_done no_children_done no_scopes e
+  plain_done kind answer e =
+      made_done (plain_form kind) (plain_made answer) no_scopes e (no_attributes_done (no_scopes []) e)
+      (no_children_done no_scopes (element_parts e))
 
   result_kind_done : (kind : ResultKind) (e : Element) → IsConclusive (result_kind_check kind e)
   result_kind_done result.NewSession e =
-      made_done session_result_form new_session_made
-      (beside_done publisher_field (table_with (word_field (codes "max-poll-result-size")) (table_with session_field no_attributes))
-      text_done
-      (beside_done (word_field (codes "max-poll-result-size")) (table_with session_field no_attributes) word_done
-      (beside_done session_field no_attributes text_done no_attributes_done)))
-      no_children_done no_scopes e
+      made_done session_result_form new_session_made no_scopes e
+      (table_done publisher_field (table_with (word_field (codes "max-poll-result-size")) (table_with session_field no_attributes))
+      read_text_done
+      (table_done (word_field (codes "max-poll-result-size")) (table_with session_field no_attributes) word_done
+      (table_done session_field no_attributes read_text_done no_attributes_done)) (no_scopes []) e)
+      (no_children_done no_scopes (element_parts e))
   result_kind_done result.Renewed e = plain_done result.Renewed reply.Renewed e
   result_kind_done result.Ended e = plain_done result.Ended reply.Ended e
   result_kind_done result.Published e = plain_done result.Published reply.Published e
   result_kind_done result.Subscribed e = plain_done result.Subscribed reply.Subscribed e
   result_kind_done result.Purged e = plain_done result.Purged reply.Purged e
-  result_kind_done result.Found e = made_done found_form found_made no_attributes_done (λ scopes. entries_done) no_scopes e
+  result_kind_done result.Found e =
+      made_done found_form found_made no_scopes e (no_attributes_done (no_scopes []) e) (entries_done (element_parts e))
   result_kind_done result.Polled e =
-      made_done polled_form polled_made no_attributes_done (λ scopes. members_done poll_check poll_done) no_scopes e
+      made_done polled_form polled_made no_scopes e (no_attributes_done (no_scopes []) e)
+      (members_done poll_check poll_done (element_parts e))
   result_kind_done result.Error e =
-      made_done error_form error_made (beside_done code_field no_attributes code_done no_attributes_done)
-      (λ scopes. only_done note_check note_done) no_scopes e
+      made_done error_form error_made no_scopes e (table_done code_field no_attributes code_done no_attributes_done (no_scopes []) e)
+      (only_done note_check note_done (element_parts e))
 
   result_done : (e : Element) → IsConclusive (result_check e)
   result_done e = some_done Failure (result_kind_of e.name) (λ kind. result_kind_check kind e) (λ kind. result_kind_done kind e)
@@ -205,7 +148,8 @@ module _ (identifier_some : (e : Element) → IsConclusive (identifier_check e))
   pub response_done : (e : Element) → IsConclusive (response_check e)
   response_done e =
       need_done (is_name e.name response_name) Failure (form_check response_form response_made no_scopes e)
-      (made_done response_form response_made no_attributes_done (λ scopes. only_done result_check result_done) no_scopes e)
+      (made_done response_form response_made no_scopes e (no_attributes_done (no_scopes []) e)
+      (only_done result_check result_done (element_parts e)))
 
 -- ---- envelopes
 

@@ -1,11 +1,11 @@
 -- Each check of a request finds something, in elements that a document can have.
 -- 1. Identifiers by the laws of their crates.
--- 2. Tables, lists of children and forms, over what they are made of.
+-- 2. Tables, lists of children and forms, by the laws of their crate: the premise is handed on to what they are made of.
 -- 3. Each attribute; filters by the law of their crate.
 -- 4. Metadata: the cardinality and the size are computed.
 -- 5. Identifiers and lists as children.
 -- 6. Operations and requests: each is one more form in a chain.
-use Rattle.std.proofs.Common.{◌≡◌, ◌⊎◌, ◌<◌, ◌≤◌, ◌+◌, ◌++◌, ℕ, true, false, List, [], ◌∷◌, Option, None, Some, IfSome, Ok}
+use Rattle.std.proofs.Common.{◌≡◌, ◌⊎◌, ◌<◌, ◌≤◌, ℕ, true, false, List, [], ◌∷◌, Option, None, Some, IfSome, Ok}
 use Rattle.std.proofs.Common.{Err, codes, length, min, inl, inr, refl, arith}
 use Rattle.std.specs.Prelude.{◌&&◌, nat_le}
 use Rattle.std.specs.List.{list_all}
@@ -15,7 +15,6 @@ use Rattle.ifmap_elem.specs.Arranged.{arrange}
 use Rattle.ifmap_elem.specs.Chars.{IsCharacters, is_white}
 use Rattle.ifmap_elem.specs.Fit.{IsFit}
 use Rattle.ifmap_elem.specs.Nesting.{nesting}
-use Rattle.ifmap_elem.specs.declared.elements.Child.TheOpen.{Child-F}
 use Rattle.ifmap_elem.specs.declared.elements.Element.{Element}
 use Rattle.ifmap_ident.specs.ifmap_reader.declared.scoping.Scope.{Scope}
 use Rattle.ifmap_forms.specs.ifmap_filter.declared.filters.Filter.{Filter}
@@ -23,22 +22,22 @@ use Rattle.ifmap_forms.specs.ifmap_filter.Laws.{FilterOrStop, StopsWhereNone}
 use Rattle.ifmap_forms.specs.ifmap_filter.Texts.{StopsAt, WritesFilter}
 use Rattle.ifmap_ident.specs.declared.codes.Code.TheVariants.{Failure, InvalidIdentifierType}
 use Rattle.ifmap_ident.specs.declared.codes.Code.TheVariants.{InvalidMetadata, InvalidSchemaVersion, MetadataTooLong}
-use Rattle.ifmap_ident.specs.Parts.{has_only, value_of}
+use Rattle.ifmap_ident.specs.Parts.{value_of}
 use Rattle.ifmap_meta.specs.declared.metadata.Cardinality.{Cardinality}
 use Rattle.ifmap_meta.specs.Cardinality.{cardinality_of}
 use Rattle.ifmap_meta.specs.Keys.{content_bytes}
 use Rattle.ifmap_meta.specs.Stamps.{content_of}
 use Rattle.ifmap_meta.specs.Whole.{content_limit}
 use Rattle.ifmap_forms.specs.CheckLaws.{fail_done, if_done, need_done, pass_done, some_done, then_done, word_check_done}
-use Rattle.ifmap_forms.specs.Checks.{Check, IsConclusive, check_if, check_then, fail, need, need_some, pass}
-use Rattle.ifmap_forms.specs.Items.{before_list, from_list, identifier_check, identifiers_check, item_content, item_of, list_if_there, list_check}
-use Rattle.ifmap_forms.specs.Items.{may_follow, start_content}
+use Rattle.ifmap_forms.specs.Checks.{Check, IsConclusive, check_if, check_then, fail, need_some, pass}
+use Rattle.ifmap_forms.specs.DoneLaws.{beside_done, each_done, list_at_done, no_attributes_done, no_children_done, or_done, read_text_done}
+use Rattle.ifmap_forms.specs.Items.{before_list, from_list, identifier_check, identifiers_check, item_content, item_of, list_if_there}
+use Rattle.ifmap_forms.specs.Items.{start_content}
 use Rattle.ifmap_forms.specs.Scopes.{Scopes, scopes_below}
-use Rattle.ifmap_elem.specs.WhiteSpace.{is_blank_part}
-use Rattle.ifmap_forms.specs.Tables.{ContentCheck, ElementForm, Part, AttributeTable, table_with, both, each_element, form_or, list_of, no_attributes}
-use Rattle.ifmap_forms.specs.Tables.{no_children, element_parts, read_form, only_member}
+use Rattle.ifmap_forms.specs.Tables.{AttributeTable, ContentCheck, ElementForm, Part, both, element_parts, form_or, list_of}
+use Rattle.ifmap_forms.specs.Tables.{no_attributes, no_children, only_member, table_with}
 use Rattle.ifmap_forms.specs.Values.{greatest_limit, greatest_size, least_limit, longest_name, publisher_field, session_field, usual_size}
-use Rattle.ifmap_forms.specs.Values.{Field, depth_field, field_check, filter_check, filter_field, kind_named, kinds_check, kinds_field}
+use Rattle.ifmap_forms.specs.Values.{Field, depth_field, filter_check, filter_field, kind_named, kinds_check, kinds_field}
 use Rattle.ifmap_lemmas.specs.Separated.{comma_parts}
 use Rattle.ifmap_forms.specs.Values.{lifetime_field, limit_field, name_field, number_of_digits, piece_check, size_field, text_field}
 use Rattle.ifmap_forms.specs.Values.{trim_white, within_range}
@@ -53,9 +52,8 @@ use Rattle.ifmap_requests.specs.RequestForms.{other_request_check, poll_form, po
 use Rattle.ifmap_requests.specs.RequestForms.{purge_form, purge_of, renew_form, renewal_of, request_check}
 use Rattle.ifmap_requests.specs.RequestForms.{search_attributes, search_form, search_of, session_attribute, subscribe_form}
 use Rattle.ifmap_requests.specs.RequestForms.{subscribe_of, subscribe_op_check, subscription_form, subscription_from_form, update_form, update_from_form}
-use Rattle.ifmap_requests.proofs.Sound.{AreSound, IsSound, from_sound, parts_sound, value_fit}
+use Rattle.ifmap_requests.proofs.Sound.{AreSound, IsSound, parts_sound, value_fit}
 use Rattle.ifmap_elem.specs.laws.CharacterLaws.{characters_are_utf8}
-use Rattle.ifmap_elem.specs.Building.{is_name}
 
 -- ---- 2. tables, children, forms
 
@@ -66,14 +64,12 @@ abbrev TableDone : {X : Type 0} → AttributeTable X → Type 0
 TableDone table = (scope : Scope) (e : Element) → IsFit e → IsConclusive (table.reads scope e)
 
 module _ {X Y : Type 0} (field : Field X) (table : AttributeTable Y) where
-  beside_done : FieldDone field → TableDone table → TableDone (table_with field table)
-  beside_done f t scope e fit =
-      then_done (field_check field scope e) (λ x. check_then (table.reads scope e) (λ y. pass (both x y)))
-      (λ x found. then_done (table.reads scope e) (λ y. pass (both x y)) (λ y got. pass_done (both x y)) (t scope e fit))
-      (f scope (value_of field.local e) (value_fit field.local e fit))
+  fit_table_done : FieldDone field → TableDone table → TableDone (table_with field table)
+  fit_table_done f t scope e fit =
+      beside_done field table scope e (f scope (value_of field.local e) (value_fit field.local e fit)) (t scope e fit)
 
-no_attributes_done : TableDone no_attributes
-no_attributes_done scope e fit = pass_done tt
+fit_no_attributes_done : TableDone no_attributes
+fit_no_attributes_done scope e fit = no_attributes_done scope e
 
 module _ (most : ℕ) where
   abbrev ContentDone : {X : Type 0} → ContentCheck X → Type 0
@@ -82,46 +78,19 @@ module _ (most : ℕ) where
   abbrev ElementDone : {X : Type 0} → (Element → Check X) → Type 0
   ElementDone check = (e : Element) → IsSound most e → IsConclusive (check e)
 
-  module _ {A C : Type 0} (form : ElementForm A C) where
-    form_done : TableDone form.attributes → ContentDone form.content → (scopes : Scopes) → ElementDone (read_form form scopes)
-    form_done t s scopes e sound =
-        then_done (form.attributes.reads (scopes []) e)
-        (λ a. need (has_only (form.passed_over ++ form.attributes.locals) e) Failure
-        (check_then (form.content scopes (element_parts e)) (λ c. pass (both a c))))
-        (λ a found. need_done (has_only (form.passed_over ++ form.attributes.locals) e) Failure
-        (check_then (form.content scopes (element_parts e)) (λ c. pass (both a c)))
-        (then_done (form.content scopes (element_parts e)) (λ c. pass (both a c)) (λ c got. pass_done (both a c))
-        (s scopes (element_parts e) (parts_sound most e sound))))
-        (t (scopes []) e sound.fit)
-
   module _ {X A C : Type 0} (form : ElementForm A C) (make : A → C → X) where
-    or_done : TableDone form.attributes → ContentDone form.content → (scopes : Scopes) (e : Element) → IsSound most e → (other : Check X)
-        → IsConclusive other → IsConclusive (form_or form make scopes e other)
-    or_done t s scopes e sound other done =
-        if_done (is_name e.name form.name) (check_then (read_form form scopes e) (λ x. pass (make x.first x.others))) other
-        (then_done (read_form form scopes e) (λ x. pass (make x.first x.others)) (λ x found. pass_done (make x.first x.others))
-        (form_done form t s scopes e sound))
-        done
+    sound_or_done : TableDone form.attributes → ContentDone form.content → (scopes : Scopes) (e : Element) → IsSound most e
+        → (other : Check X) → IsConclusive other → IsConclusive (form_or form make scopes e other)
+    sound_or_done t s scopes e sound other done =
+        or_done form make scopes e (t (scopes []) e sound.fit) (s scopes (element_parts e) (parts_sound most e sound)) other done
 
-  module _ {X : Type 0} (one : ℕ → Element → Check X) (s : (index : ℕ) → ElementDone (one index)) where
-    each_done : (index : ℕ) (parts : List Part) → AreSound most parts → IsConclusive (each_element one index parts)
-    each_done index [] sound = pass_done []
-    each_done index (Child-F.Element e ∷ parts) sound =
-        then_done (one index e) (λ x. check_then (each_element one (index + 1) parts) (λ xs. pass (x ∷ xs)))
-        (λ x found. then_done (each_element one (index + 1) parts) (λ xs. pass (x ∷ xs)) (λ xs got. pass_done (x ∷ xs))
-        (each_done (index + 1) parts sound.1))
-        (s index e sound.0)
-    each_done index (Child-F.Text text ∷ parts) sound =
-        need_done (list_all is_white text) Failure (each_element one (index + 1) parts) (each_done (index + 1) parts sound.1)
-
-  no_children_done : ContentDone no_children
-  no_children_done scopes parts sound = need_done (list_all is_blank_part parts) Failure (pass tt) (pass_done tt)
+  sound_no_children_done : ContentDone no_children
+  sound_no_children_done scopes parts sound = no_children_done scopes parts
 
 -- ---- 3. values
 
 text_done : (local : List ℕ) → FieldDone (text_field local)
-text_done local scope None is = fail_done Failure
-text_done local scope (Some text) is = pass_done text
+text_done local scope text is = read_text_done scope text
 
 name_done : FieldDone name_field
 name_done scope None is = fail_done Failure
@@ -197,124 +166,115 @@ metadata_done e = metadata_by e (cardinality_of e) refl
 
 -- ---- 5. children
 
-module _ (most : ℕ) where
-  list_done : ElementDone most (list_check metadata_check)
-  list_done e sound =
-      need_done (has_only [] e) Failure (each_element (λ index inner. metadata_check inner) 0 (element_parts e))
-      (each_done most (λ index inner. metadata_check inner) (λ index inner s. metadata_done inner) 0 (element_parts e)
-      (parts_sound most e sound))
+module _ (most : ℕ) (identifier : (e : Element) → IsConclusive (identifier_check e)) where
+  start_done : ContentDone most start_content
+  start_done scopes parts sound =
+      then_done (identifiers_check 1 [] parts) (λ identifiers. need_some Failure (only_member identifiers) (λ i. pass i))
+      (λ identifiers found. some_done Failure (only_member identifiers) (λ i. pass i) (λ i. pass_done i))
+      (identifiers_done identifier 1 [] parts)
 
-  list_at_done : (parts : List Part) → AreSound most parts → IsConclusive (list_if_there metadata_check parts)
-  list_at_done [] sound = pass_done None
-  list_at_done (Child-F.Element e ∷ after) sound =
-      then_done (list_check metadata_check e) (λ xs. need (list_all is_blank_part after) Failure (pass (Some xs)))
-      (λ xs found. need_done (list_all is_blank_part after) Failure (pass (Some xs)) (pass_done (Some xs)))
-      (list_done e sound.0)
-  list_at_done (Child-F.Text text ∷ after) sound = fail_done Failure
+  item_done : ContentDone most item_content
+  item_done scopes parts sound =
+      then_done (identifiers_check 2 [] parts) (λ identifiers. need_some Failure (item_of identifiers) (λ item. pass item))
+      (λ identifiers found. some_done Failure (item_of identifiers) (λ item. pass item) (λ item. pass_done item))
+      (identifiers_done identifier 2 [] parts)
 
-  module _ (identifier : (e : Element) → IsConclusive (identifier_check e)) where
-    start_done : ContentDone most start_content
-    start_done scopes parts sound =
-        then_done (identifiers_check 1 [] parts) (λ identifiers. need_some Failure (only_member identifiers) (λ i. pass i))
-        (λ identifiers found. some_done Failure (only_member identifiers) (λ i. pass i) (λ i. pass_done i))
-        (identifiers_done identifier 1 [] parts)
-
-    item_done : ContentDone most item_content
-    item_done scopes parts sound =
-        then_done (identifiers_check 2 [] parts) (λ identifiers. need_some Failure (item_of identifiers) (λ item. pass item))
-        (λ identifiers found. some_done Failure (item_of identifiers) (λ item. pass item) (λ item. pass_done item))
-        (identifiers_done identifier 2 [] parts)
-
-    published_done : ContentDone most published_content
-    published_done scopes parts sound =
-        then_done (identifiers_check 2 [] (before_list parts))
-        (λ identifiers. check_then (list_if_there metadata_check (from_list parts)) (λ list. published_from identifiers list))
-        (λ identifiers found. then_done (list_if_there metadata_check (from_list parts)) (λ list. published_from identifiers list)
-        (λ list got. some_done Failure (item_of identifiers)
-        (λ item. need_some Failure list (λ elements. pass (both item elements)))
-        (λ item. some_done Failure list (λ elements. pass (both item elements)) (λ elements. pass_done (both item elements))))
-        (list_at_done (from_list parts) (from_sound most parts sound)))
-        (identifiers_done identifier 2 [] (before_list parts))
+  published_done : ContentDone most published_content
+  published_done scopes parts sound =
+      then_done (identifiers_check 2 [] (before_list parts))
+      (λ identifiers. check_then (list_if_there metadata_check (from_list parts)) (λ list. published_from identifiers list))
+      (λ identifiers found. then_done (list_if_there metadata_check (from_list parts)) (λ list. published_from identifiers list)
+      (λ list got. some_done Failure (item_of identifiers)
+      (λ item. need_some Failure list (λ elements. pass (both item elements)))
+      (λ item. some_done Failure list (λ elements. pass (both item elements)) (λ elements. pass_done (both item elements))))
+      (list_at_done metadata_check metadata_done (from_list parts)))
+      (identifiers_done identifier 2 [] (before_list parts))
 
 -- ---- 6. operations and requests
 
 module _ (identifier : (e : Element) → IsConclusive (identifier_check e)) (decided : FilterOrStop) (apart : StopsWhereNone) where
   search_attributes_done : TableDone search_attributes
   search_attributes_done =
-      beside_done links_field after_links (filter_done decided apart links_field.local)
-      (beside_done depth_field after_depth depth_done
-      (beside_done size_field after_size size_done
-      (beside_done result_field (table_with kinds_field no_attributes) (filter_done decided apart result_field.local)
-      (beside_done kinds_field no_attributes kinds_done no_attributes_done))))
+      fit_table_done links_field after_links (filter_done decided apart links_field.local)
+      (fit_table_done depth_field after_depth depth_done
+      (fit_table_done size_field after_size size_done
+      (fit_table_done result_field (table_with kinds_field no_attributes) (filter_done decided apart result_field.local)
+      (fit_table_done kinds_field no_attributes kinds_done fit_no_attributes_done))))
 
   session_done : TableDone session_attribute
-  session_done = beside_done session_field no_attributes (text_done session_field.local) no_attributes_done
+  session_done = fit_table_done session_field no_attributes (text_done session_field.local) fit_no_attributes_done
 
   purge_done : TableDone purge_form.attributes
   purge_done =
-      beside_done session_field (table_with publisher_field no_attributes) (text_done session_field.local)
-      (beside_done publisher_field no_attributes (text_done publisher_field.local) no_attributes_done)
+      fit_table_done session_field (table_with publisher_field no_attributes) (text_done session_field.local)
+      (fit_table_done publisher_field no_attributes (text_done publisher_field.local) fit_no_attributes_done)
 
   module _ (most : ℕ) where
     publish_op_done : (scopes : Scopes) → ElementDone most (publish_op_check scopes)
     publish_op_done scopes e sound =
-        or_done most update_form update_from_form (beside_done lifetime_field no_attributes lifetime_done no_attributes_done)
+        sound_or_done most update_form update_from_form (fit_table_done lifetime_field no_attributes lifetime_done fit_no_attributes_done)
         (published_done most identifier) scopes e sound
         (form_or notify_form notify_of scopes e (form_or delete_form delete_from_form scopes e (fail Failure)))
-        (or_done most notify_form notify_of no_attributes_done (published_done most identifier) scopes e sound
+        (sound_or_done most notify_form notify_of fit_no_attributes_done (published_done most identifier) scopes e sound
         (form_or delete_form delete_from_form scopes e (fail Failure))
-        (or_done most delete_form delete_from_form
-        (beside_done (filter_field (codes "filter")) no_attributes (filter_done decided apart (codes "filter")) no_attributes_done)
+        (sound_or_done most delete_form delete_from_form
+        (fit_table_done (filter_field (codes "filter")) no_attributes (filter_done decided apart (codes "filter")) fit_no_attributes_done)
         (item_done most identifier) scopes e sound (fail Failure) (fail_done Failure)))
 
     subscribe_op_done : (scopes : Scopes) → ElementDone most (subscribe_op_check scopes)
     subscribe_op_done scopes e sound =
-        or_done most subscription_form subscription_from_form
-        (beside_done name_field search_attributes name_done search_attributes_done) (start_done most identifier) scopes e sound
+        sound_or_done most subscription_form subscription_from_form
+        (fit_table_done name_field search_attributes name_done search_attributes_done) (start_done most identifier) scopes e sound
         (form_or end_form end_from_form scopes e (fail Failure))
-        (or_done most end_form end_from_form (beside_done name_field no_attributes name_done no_attributes_done) (no_children_done most)
-        scopes e sound (fail Failure) (fail_done Failure))
+        (sound_or_done most end_form end_from_form (fit_table_done name_field no_attributes name_done fit_no_attributes_done)
+        (sound_no_children_done most) scopes e sound (fail Failure) (fail_done Failure))
 
     publish_ops_done : ContentDone most (list_of publish_op_check)
     publish_ops_done scopes parts sound =
-        each_done most (λ index e. publish_op_check (scopes_below scopes index) e)
+        each_done (IsSound most) (λ index e. publish_op_check (scopes_below scopes index) e)
         (λ index e s. publish_op_done (scopes_below scopes index) e s) 0 parts sound
 
     subscribe_ops_done : ContentDone most (list_of subscribe_op_check)
     subscribe_ops_done scopes parts sound =
-        each_done most (λ index e. subscribe_op_check (scopes_below scopes index) e)
+        each_done (IsSound most) (λ index e. subscribe_op_check (scopes_below scopes index) e)
         (λ index e s. subscribe_op_done (scopes_below scopes index) e s) 0 parts sound
 
     module _ (scopes : Scopes) (e : Element) (sound : IsSound most e) where
       purges : IsConclusive (from_purge scopes e)
-      purges = or_done most purge_form purge_of purge_done (no_children_done most) scopes e sound (fail Failure) (fail_done Failure)
+      purges =
+          sound_or_done most purge_form purge_of purge_done (sound_no_children_done most) scopes e sound (fail Failure) (fail_done Failure)
 
       subscribes : IsConclusive (from_subscribe scopes e)
-      subscribes = or_done most subscribe_form subscribe_of session_done subscribe_ops_done scopes e sound (from_purge scopes e) purges
+      subscribes =
+          sound_or_done most subscribe_form subscribe_of session_done subscribe_ops_done scopes e sound (from_purge scopes e) purges
 
       searches : IsConclusive (from_search scopes e)
       searches =
-          or_done most search_form search_of
-          (beside_done session_field search_attributes (text_done session_field.local) search_attributes_done)
+          sound_or_done most search_form search_of
+          (fit_table_done session_field search_attributes (text_done session_field.local) search_attributes_done)
           (start_done most identifier) scopes e sound (from_subscribe scopes e) subscribes
 
       polls : IsConclusive (from_poll scopes e)
-      polls = or_done most poll_form poll_of session_done (no_children_done most) scopes e sound (from_search scopes e) searches
+      polls = sound_or_done most poll_form poll_of session_done (sound_no_children_done most) scopes e sound (from_search scopes e) searches
 
       ends : IsConclusive (from_end_session scopes e)
-      ends = or_done most end_session_form end_session_of session_done (no_children_done most) scopes e sound (from_poll scopes e) polls
+      ends =
+          sound_or_done most end_session_form end_session_of session_done (sound_no_children_done most) scopes e sound
+          (from_poll scopes e) polls
 
       renews : IsConclusive (from_renewal scopes e)
-      renews = or_done most renew_form renewal_of session_done (no_children_done most) scopes e sound (from_end_session scopes e) ends
+      renews =
+          sound_or_done most renew_form renewal_of session_done (sound_no_children_done most) scopes e sound
+          (from_end_session scopes e) ends
 
       others : IsConclusive (other_request_check scopes e)
       others =
-          or_done most new_session_form new_session_of (beside_done limit_field no_attributes limit_done no_attributes_done)
-          (no_children_done most) scopes e sound (from_renewal scopes e) renews
+          sound_or_done most new_session_form new_session_of (fit_table_done limit_field no_attributes limit_done fit_no_attributes_done)
+          (sound_no_children_done most) scopes e sound (from_renewal scopes e) renews
 
       named_done : IsConclusive (named_request_check scopes e)
       named_done =
-          or_done most publish_form publish_of session_done publish_ops_done scopes e sound (other_request_check scopes e) others
+          sound_or_done most publish_form publish_of session_done publish_ops_done scopes e sound (other_request_check scopes e) others
 
   pub request_done : (scopes : Scopes) (e : Element) → IsFit e → IsConclusive (request_check scopes e)
   request_done scopes e fit =

@@ -16,6 +16,7 @@ use Rattle.ifmap_elem.specs.declared.elements.Element.{Element}
 use Rattle.ifmap_elem.specs.laws.FitLaws.{elements_in, elements_of_child, fit_parts, out_text}
 use Rattle.ifmap_envelopes.specs.Envelopes.{IsEnvelope}
 use Rattle.ifmap_ident.specs.Parts.{value_of}
+use Rattle.ifmap_forms.specs.DoneLaws.{IfElement}
 use Rattle.ifmap_forms.specs.Items.{before_list, from_list, is_list}
 use Rattle.ifmap_forms.specs.Tables.{Part, parts_in, element_parts}
 use Rattle.ifmap_elem.specs.laws.ArrangedLaws.{out_element}
@@ -27,8 +28,7 @@ module _ (most : ℕ) where
     pub levels : nesting e ≤ most
 
   abbrev pub IsSoundPart : Part → Type 0
-  IsSoundPart (Child-F.Element e) = IsSound e
-  IsSoundPart (Child-F.Text text) = Unit {0}
+  IsSoundPart = IfElement IsSound
 
   abbrev pub AreSound : List Part → Type 0
   AreSound parts = AllByRecursion IsSoundPart parts
