@@ -16,7 +16,7 @@ use Rattle.ifmap_ident.specs.declared.codes.Code.TheVariants.{Failure}
 use Rattle.ifmap_ident.specs.Parts.{has_only}
 use Rattle.ifmap_ident.specs.ifmap_reader.declared.scoping.Scope.{Scope}
 use Rattle.ifmap_forms.specs.CheckLaws.{fail_single, need_single, pass_single, some_single, then_single, word_check_single}
-use Rattle.ifmap_forms.specs.Checks.{Check, IsSingle, check_then, need, need_some, pass}
+use Rattle.ifmap_forms.specs.Checks.{Check, IsSingle, check_then, err_value, need, need_some, ok_value, pass}
 use Rattle.ifmap_forms.specs.Items.{before_list, from_list, identifier_check, identifiers_check, item_of, list_if_there}
 use Rattle.ifmap_forms.specs.SingleLaws.{beside_single, made_single, each_single, read_text_single, list_at_single, no_attributes_single}
 use Rattle.ifmap_forms.specs.SingleLaws.{no_children_single, identifiers_single}
@@ -143,12 +143,6 @@ module _ (identifier_one : (e : Element) → IsSingle (identifier_check e)) wher
 
 -- ---- 3. elements and bodies
 
-abbrev good : Reply → Result Reply Code
-good answer = Ok answer
-
-abbrev bad : Code → Result Reply Code
-bad code = Err code
-
 module _ (identifier_one : (e : Element) → IsSingle (identifier_check e)) (envelopes : OneEnvelope) where
   -- two findings in the envelopes that one element is
   found_one : (e : Element) (path route : List ℕ) (one other : Element) (r s : Result Reply Code) → IsEnvelope e path one
@@ -159,13 +153,13 @@ module _ (identifier_one : (e : Element) → IsSingle (identifier_check e)) (env
 
   pub one_reply : OneReply
   one_reply e one other a b =
-      let same : good one ≡ good other =
+      let same : ok_value one ≡ ok_value other =
       found_one e a.path b.path a.response b.response (Ok one) (Ok other) a.envelope b.envelope a.checked b.checked in
       cc
 
   pub no_reply_with_defect : NoReplyWithDefect
   no_reply_with_defect e path response code envelope defect answer b =
-      let wrong : bad code ≡ good answer =
+      let wrong : err_value code ≡ ok_value answer =
       found_one e path b.path response b.response (Err code) (Ok answer) envelope b.envelope defect b.checked in
       cc
 
