@@ -1,12 +1,12 @@
 -- Drawing a ticket, and looking whether it is served.
 -- 1. The slot stays where a seat that has no book changes into one that has none (`same_slot`).
 -- 2. A seat that has a ticket or the book has a part (`has_part`, `holder_served`).
--- 3. Each step is a `Goes`: the next ticket is drawn (`draw_goes`), or the book is taken
---    (`look_goes`).
+-- 3. Each step is a `Goes` of a seat that comes to a stage while the history and the number served stay (`stage_goes`): the next
+--    ticket is drawn (`draw_goes`), or the book is taken (`look_goes`).
 -- 4. Who has the ticket that is served finds the book in its slot (`finds`); equal remainders are
 --    equal tickets, since no more tickets are out than there are parts (`is_served`).
 -- 5. So the table allows each step, over the words that the rule names: `draws`, `looks`, `looks_at_rest`.
-use Rattle.std.proofs.Common.{◌≡◌, ◌⊎◌, ℕ, ◌+◌, ◌%◌, ◌^◌, ◌<◌, List, [], ◌∷◌, set, slice_index, true, false, refl, sym, ap, subst, ◌∙◌, inl, inr, arith}
+use Rattle.std.proofs.Common.{◌≡◌, ◌≢◌, ◌⊎◌, ℕ, ◌+◌, ◌%◌, ◌^◌, ◌<◌, ◌≤◌, List, [], ◌∷◌, set, slice_index, true, false, refl, sym, ap, subst, ◌∙◌, inl, inr, arith}
 use mathlib.Core.Option.{none, some-injective}
 use native.Mathlib.Nat.{mod-add-mod}
 use native.Mathlib.Decide.{ℕ_discrete}
@@ -18,11 +18,12 @@ use Rattle.atomic_table.proofs.Lists.{at_set, set_here, set_else, set_again, one
 use Rattle.ifmap_hall.specs.Histories.{BookStandsFor}
 use Rattle.ifmap_hall.specs.Plays.{Draws, Looks, LooksAtRest}
 use Rattle.ifmap_hall.specs.Rule.{Homes, Sits, AtHome, IsAway, IsInTurn, Keeps}
-use Rattle.ifmap_hall.specs.SeatViews.{tickets_of, ticket_of, holds_book, with_ticket, with_book}
+use Rattle.ifmap_hall.specs.SeatViews.{tickets_of, ticket_of, taken_of, holds_book, with_ticket, with_book}
 use Rattle.ifmap_hall.specs.declared.book.Book.{Book}
 use Rattle.ifmap_hall.specs.declared.view.HallHistory.{HallHistory}
 use Rattle.ifmap_hall.specs.declared.view.SeatView.{SeatView}
-use Rattle.ifmap_hall.specs.declared.view.Stage.TheVariants.{Idle, Waits}
+use Rattle.ifmap_hall.specs.declared.view.Stage.{Stage}
+use Rattle.ifmap_hall.specs.declared.view.Stage.TheVariants.{Idle, Waits, Holds}
 use Rattle.ifmap_hall.specs.declared.view.Terms.{Terms}
 use Rattle.ifmap_hall.proofs.Changes.{Goes, seat_goes, holder_has_ticket}
 use Rattle.ifmap_hall.proofs.Extending.{extends-itself}
@@ -74,19 +75,22 @@ module _ {M E R : Type 0} (next : M → E → M) (weight : E → ℕ) where
         (part, one, ((k.fit j x e part).held h).0)
 
     module _ (id : ℕ) (s : SeatView M E R) (sits : Sits seats id s) (part : 0 < s.parts) where
-      -- the ticket that is drawn is the next
-      draw_goes : s.stage ≡ Idle → Goes next weight terms words homes seats k id s (with_ticket s k.drawn) k.history k.served (k.drawn + 1)
-      draw_goes idle =
+      -- the seat comes to a stage, and only tickets are drawn: the history and the number served stay
+      stage_goes : (stage : Stage E) (drawn : ℕ) → k.drawn ≤ drawn → tickets_of stage + k.drawn ≡ tickets_of s.stage + drawn
+          → (tickets_of stage ≡ 1 → (k.served ≤ ticket_of stage) × (ticket_of stage < drawn))
+          → (holds_book stage ≡ true → (ticket_of stage ≡ k.served) × (taken_of stage ≡ k.history))
+          → (tickets_of stage ≡ 1 → (j : ℕ) (x : SeatView M E R) → j ≢ id → Sits seats j x → tickets_of x.stage ≡ 1
+          → ticket_of x.stage ≢ ticket_of stage)
+          → Goes next weight terms words homes seats k id s (record s { stage = stage }) k.history k.served drawn
+      stage_goes stage drawn further tickets queued held apart =
           let f = k.fit id s sits part in
-          let all = k.tickets in
-          let none : tickets_of s.stage ≡ 0 = ap tickets_of idle in
           record {
             sits = sits;
             same = refl;
             part = part;
             extends = extends-itself k.history;
             later = omega arith;
-            further = omega arith;
+            further = further;
             queued = λ j x n e h. ((k.fit j x e (has_part j x e h)).queued h).0;
             held = λ j x n e h. (refl, refl);
             fits = record {
@@ -94,46 +98,33 @@ module _ {M E R : Type 0} (next : M → E → M) (weight : E → ℕ) where
               sound = f.sound;
               extends = f.extends;
               joined = f.joined;
-              queued = λ h. (omega arith, omega arith);
-              held = λ h. absurd (true≢false (sym h));
+              queued = queued;
+              held = held;
               lone = f.lone;
             };
-            tickets = omega arith;
+            tickets = omega (arith, tickets);
             places = λ x. refl;
-            apart = λ one j x n e h same. let q = ((k.fit j x e (has_part j x e h)).queued h).1 in omega arith;
+            apart = apart;
             order = λ j x n e h. k.ordered j id x s e sits h part;
             alone = λ l. l;
           }
+
+      -- the ticket that is drawn is the next
+      draw_goes : s.stage ≡ Idle → Goes next weight terms words homes seats k id s (with_ticket s k.drawn) k.history k.served (k.drawn + 1)
+      draw_goes idle =
+          let all = k.tickets in
+          let none : tickets_of s.stage ≡ 0 = ap tickets_of idle in
+          stage_goes (Waits k.drawn) (k.drawn + 1) (omega arith) (omega arith) (λ h. (omega arith, omega arith))
+          (λ h. absurd (true≢false (sym h)))
+          (λ one j x n e h same. let q = ((k.fit j x e (has_part j x e h)).queued h).1 in omega arith)
 
       -- who has the ticket that is served takes the book
       look_goes : tickets_of s.stage ≡ 1 → k.served ≡ ticket_of s.stage
           → Goes next weight terms words homes seats k id s (with_book s k.history) k.history k.served k.drawn
       look_goes waits here =
           let f = k.fit id s sits part in
-          record {
-            sits = sits;
-            same = refl;
-            part = part;
-            extends = extends-itself k.history;
-            later = omega arith;
-            further = omega arith;
-            queued = λ j x n e h. ((k.fit j x e (has_part j x e h)).queued h).0;
-            held = λ j x n e h. (refl, refl);
-            fits = record {
-              terms_are = f.terms_are;
-              sound = f.sound;
-              extends = f.extends;
-              joined = f.joined;
-              queued = λ _. f.queued waits;
-              held = λ _. (sym here, refl);
-              lone = f.lone;
-            };
-            tickets = omega arith;
-            places = λ x. refl;
-            apart = λ one j x n e h same. n (k.apart j id x s e sits h waits same);
-            order = λ j x n e h. k.ordered j id x s e sits h part;
-            alone = λ l. l;
-          }
+          stage_goes (Holds (ticket_of s.stage) k.history) k.drawn (omega arith) (omega arith) (λ _. f.queued waits) (λ _. (sym here, refl))
+          (λ one j x n e h same. n (k.apart j id x s e sits h waits same))
 
       -- the book is in its slot, where the ticket that is served is that of a seat without the book
       finds : tickets_of s.stage ≡ 1 → holds_book s.stage ≡ false → k.served ≡ ticket_of s.stage
