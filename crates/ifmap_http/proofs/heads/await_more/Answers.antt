@@ -1,31 +1,24 @@
-use Rattle.std.proofs.Common.{◌≡◌, false, ℕ, List, subst}
 use Rattle.ifmap_input.specs.InputLaws.{takes_more}
-use Rattle.ifmap_input.specs.Inputs.{TakesFromSource}
 use Rattle.ifmap_http.specs.Heads.{AwaitsPost}
+use Rattle.ifmap_http.proofs.Awaiting.{awaits_pending, awaits_at_end}
 use Rattle.ifmap_http.proofs.Failing.{unless_post}
 use Rattle.ifmap_http.proofs.heads.await_more.Goals as goal
 
 pub returns-in-Some-clause-is : goal.returns-in-Some-clause-is
 returns-in-Some-clause-is g c =
-    subst (λ (bytes : List ℕ). AwaitsPost bytes (g.S.Source.left c.head.source) c.in-Some.awaited) c.pending_bytes.ensures
-    (c.in-Some.ensures.some (g.S.Source.left c.head.source))
+    awaits_pending AwaitsPost c.in-Some.awaited _ _ (g.S.Source.left c.head.source) c.pending_bytes.ensures c.in-Some.ensures.some
 
 pub returns-in-Some-clause-fault : goal.returns-in-Some-clause-fault
 returns-in-Some-clause-fault g c = λ e. absurd (c.in-Some.ensures.never e)
 
 pub returns-in-Ok-false-clause-taken : goal.returns-in-Ok-false-clause-taken
 returns-in-Ok-false-clause-taken g c =
-    unless_post c.end_post.result
-    (TakesFromSource (g.S.Source.left c.args.source.now) (g.S.Source.left c.fill.new.source) c.args.input.now c.fill.new.self)
-    (takes_more (g.S.Source.left c.args.source.now) (g.S.Source.left c.head.source) (g.S.Source.left c.fill.new.source)
-    c.args.input.now c.head.input c.fill.new.self c.head.invariant.takes c.in-Ok-false.ensures.taken)
+    unless_post c.end_post.result _ (takes_more _ _ _ _ _ _ c.head.invariant.takes c.in-Ok-false.ensures.taken)
 
 pub returns-in-Ok-false-clause-is : goal.returns-in-Ok-false-clause-is
 returns-in-Ok-false-clause-is g c =
-    let no : c.in-Ok-false.field-0 ≡ false = cc in
-    let ended = rw no at c.in-Ok-false.ensures.end in
-    subst (λ (bytes : List ℕ). AwaitsPost bytes (g.S.Source.left c.fill.new.source) c.end_post.result) c.pending_bytes-in-Ok-false.ensures
-    (c.end_post.ensures.is (g.S.Source.left c.fill.new.source) ended.0)
+    awaits_at_end AwaitsPost c.end_post.result _ _ (g.S.Source.left c.fill.new.source) c.pending_bytes-in-Ok-false.ensures
+    _ c.in-Ok-false.field-0 (cc) c.in-Ok-false.ensures.end c.end_post.ensures.is
 
 pub returns-in-Ok-false-clause-fault : goal.returns-in-Ok-false-clause-fault
 returns-in-Ok-false-clause-fault g c = λ e. absurd (c.end_post.ensures.never e)
