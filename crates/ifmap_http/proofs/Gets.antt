@@ -1,5 +1,5 @@
 -- From what was awaited to what a wire answers.
-use Rattle.std.proofs.Common.{◌≡◌, ◌⊎◌, ℕ, List, ◌++◌, ap, drop}
+use Rattle.std.proofs.Common.{◌⊎◌, ℕ, List, ◌++◌, ap, drop}
 use Rattle.std.specs.Prelude.{IfSome, None, Option, Some}
 use Rattle.std.specs.Io.KnownBytes.{IsAtEnd, prepend_known}
 use Rattle.ifmap_heads.specs.Answers.{other}
@@ -7,19 +7,11 @@ use Rattle.ifmap_heads.specs.Posts.{ReadsPost, status}
 use Rattle.ifmap_heads.specs.Starts.{HasAnswerHead}
 use Rattle.ifmap_input.specs.Inputs.{TakesFromSource}
 use Rattle.ifmap_http.specs.Outcomes.{GetsAnswer, GetsPost}
-use Rattle.ifmap_http.specs.declared.wires.Answered.{Answered}
 use Rattle.ifmap_http.specs.declared.wires.Answered.TheVariants as answer
-use Rattle.ifmap_http.specs.declared.wires.Got.{Got}
 use Rattle.ifmap_http.specs.declared.wires.Got.TheVariants as got
-use Rattle.ifmap_http.proofs.Reading.{answer_refused, at_end_is, for_told, whole_is}
+use Rattle.ifmap_http.proofs.Reading.{answer_refused, for_told, whole_is}
 
--- what is claimed of the bytes so far at the end is of all that the wire had left
-pub told_at_end : (P : List ℕ → Type 0) (left_old left_new : Option (List ℕ)) (old new : List ℕ)
-    → TakesFromSource left_old left_new old new → IsAtEnd left_new × P new → IfSome (prepend_known old left_old) P
-told_at_end P left_old left_new old new takes (end, holds) =
-    for_told P left_old left_new old new takes (λ rest is. at_end_is P new rest left_new is end holds)
-
--- and so is what is claimed of them whatever comes after them, or at the end
+-- what is claimed of the bytes so far, whatever comes after them or at the end, is of all that the wire had left
 pub told_whole : (P : List ℕ → Type 0) (left_old left_new : Option (List ℕ)) (old new : List ℕ)
     → TakesFromSource left_old left_new old new → ((more : List ℕ) → P (new ++ more)) ⊎ (IsAtEnd left_new × P new)
     → IfSome (prepend_known old left_old) P
@@ -33,26 +25,12 @@ gets_refused number left_old left_new old new takes refused =
     for_told (λ left. GetsPost left (prepend_known new left_new) (got.Status number)) left_old left_new old new takes
     (λ rest is. (whole_is (λ xs. ReadsPost xs (status number)) new rest left_new is refused, ap (prepend_known new) is))
 
-pub gets_taken : (result : Got) (left_old left_mid : Option (List ℕ)) (old mid : List ℕ) (after : Option (List ℕ))
-    → TakesFromSource left_old left_mid old mid
-    → ((all : List ℕ) → left_mid ≡ Some all → GetsPost (mid ++ all) after result)
-    → IfSome (prepend_known old left_old) (λ left. GetsPost left after result)
-gets_taken result left_old left_mid old mid after takes reads =
-    for_told (λ left. GetsPost left after result) left_old left_mid old mid takes reads
-
 pub answers_refused : (number size : ℕ) (left_old left_new : Option (List ℕ)) (old new : List ℕ) → TakesFromSource left_old left_new old new
     → HasAnswerHead new size (other number)
     → IfSome (prepend_known old left_old) (λ left. GetsAnswer left (prepend_known (drop size new) left_new) (answer.Status number))
 answers_refused number size left_old left_new old new takes has =
     for_told (λ left. GetsAnswer left (prepend_known (drop size new) left_new) (answer.Status number)) left_old left_new old new takes
     (λ rest is. answer_refused new size number left_new rest has is)
-
-pub answers_taken : (result : Answered) (left_old left_mid : Option (List ℕ)) (old mid : List ℕ) (after : Option (List ℕ))
-    → TakesFromSource left_old left_mid old mid
-    → ((all : List ℕ) → left_mid ≡ Some all → GetsAnswer (mid ++ all) after result)
-    → IfSome (prepend_known old left_old) (λ left. GetsAnswer left after result)
-answers_taken result left_old left_mid old mid after takes reads =
-    for_told (λ left. GetsAnswer left after result) left_old left_mid old mid takes reads
 
 -- of an answer that says nothing, nothing is to be shown
 pub gets_nothing : (known : Option (List ℕ)) → IfSome known (λ left. Unit {0})

@@ -24,7 +24,7 @@ for_told P (Some xs) (Some rest) old new takes claim =
     ∙ ap (λ (bytes : List ℕ). old ++ bytes) (sym takes.consumed) in
     subst P whole (claim rest refl)
 
-pub at_end_is : (P : List ℕ → Type 0) (bytes rest : List ℕ) (left : Option (List ℕ)) → left ≡ Some rest → IsAtEnd left → P bytes → P
+at_end_is : (P : List ℕ → Type 0) (bytes rest : List ℕ) (left : Option (List ℕ)) → left ≡ Some rest → IsAtEnd left → P bytes → P
     (bytes ++ rest)
 at_end_is P bytes rest left is end holds =
     let none : rest ≡ [] = subst IsAtEnd is end in

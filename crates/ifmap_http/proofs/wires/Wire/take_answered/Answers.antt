@@ -8,8 +8,7 @@ pub returns-in-Ok-clause-reads : goal.returns-in-Ok-clause-reads
 returns-in-Ok-clause-reads g c =
     rw (← c.self.view_is)
     (λ all told.
-    answer_read c.self.inside.input c.args.size (g.L.Source.left c.self.inside.link)
-    (g.L.Source.left c.take_body.new.source) all c.take_body.new.input c.in-Ok.body.items
+    answer_read c.self.inside.input c.args.size _ _ all _ c.in-Ok.body.items
     (subst (λ (n : ℕ). HasAnswerHead c.self.inside.input c.args.size (sized n)) (sym c.in-Ok.ensures.size)
     (rw (← c.self.view_is) at c.requires))
     told (rw c.advance.ensures at c.in-Ok.ensures.body))
@@ -18,6 +17,5 @@ pub returns-in-Err-Truncated-clause-reads : goal.returns-in-Err-Truncated-clause
 returns-in-Err-Truncated-clause-reads g c =
     rw (← c.self.view_is)
     (λ all told.
-    answer_lacks c.self.inside.input c.args.size c.args.body (g.L.Source.left c.self.inside.link)
-    (g.L.Source.left c.take_body.new.source) all
+    answer_lacks c.self.inside.input c.args.size c.args.body _ _ all
     (rw (← c.self.view_is) at c.requires) told (rw c.advance.ensures at (c.in-Err-Truncated.ensures.truncated (cc))))

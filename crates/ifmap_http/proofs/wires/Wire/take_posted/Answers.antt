@@ -6,16 +6,14 @@ pub returns-in-Ok-clause-reads : goal.returns-in-Ok-clause-reads
 returns-in-Ok-clause-reads g c =
     rw (← c.self.view_is)
     (λ all told.
-    post_read c.self.inside.input c.args.size c.args.terms (g.L.Source.left c.self.inside.link)
-    (g.L.Source.left c.take_body.new.source) all c.take_body.new.input c.in-Ok.body.items
+    post_read c.self.inside.input c.args.size c.args.terms _ _ all _ c.in-Ok.body.items
     (rw (← c.self.view_is) at c.requires) told (rw c.advance.ensures at c.in-Ok.ensures.body) c.in-Ok.ensures.size)
 
 pub returns-in-Err-Truncated-clause-reads : goal.returns-in-Err-Truncated-clause-reads
 returns-in-Err-Truncated-clause-reads g c =
     rw (← c.self.view_is)
     (λ all told.
-    post_lacks c.self.inside.input c.args.size c.args.terms (g.L.Source.left c.self.inside.link)
-    (g.L.Source.left c.take_body.new.source) all
+    post_lacks c.self.inside.input c.args.size c.args.terms _ _ all
     (rw (← c.self.view_is) at c.requires) told (rw c.advance.ensures at (c.in-Err-Truncated.ensures.truncated (cc))))
 
 pub returns-in-Ok-clause-answerable : goal.returns-in-Ok-clause-answerable
