@@ -42,7 +42,8 @@ fn kinds_of_pieces(alloc: Global, text: &[u8]) -> Result<Many<Kind>, FormError>
 
 // The first piece and what stands after its comma; `None` where there is no comma.
 fn cut_piece(text: &[u8]) -> Option<(&[u8], &[u8])>
-    ensures pieces { IfSome result (λ cut. comma_parts text.now ≡ cut.0.now ∷ comma_parts cut.1.now) }
+    ensures pieces { IfSome result
+        (λ cut. comma_parts text.now ≡ cut.0.now ∷ comma_parts cut.1.now) }
     ensures shorter { IfSome result (λ cut. length cut.1.now < length text.now) }
     ensures whole { IfNone result (comma_parts text.now ≡ text.now ∷ []) }
 {
