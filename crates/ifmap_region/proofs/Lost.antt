@@ -62,8 +62,8 @@ module _ (old mid : ℕ → ℕ → Type 0) (terminal : ℕ → Bool) (start top
   }
 
   -- a number without a row gets one, and comes into the queue
-  module _ (rows rows' : List (ℕ × Option ℕ)) (seeds seeds' queued queued' : ℕ → ℕ → Type 0) (level j v : ℕ) (e : GetsMarkedRow j v rows rows')
-      (first_here : first v ≡ Some j) (above : 0 < j) (near : IsNear v)
+  module _ (rows rows' : List (ℕ × Option ℕ)) (seeds seeds' queued queued' : ℕ → ℕ → Type 0) (level j v : ℕ)
+      (e : GetsMarkedRow j v rows rows') (first_here : first v ≡ Some j) (above : 0 < j) (near : IsNear v)
       (there : (k x : ℕ) → seeds k x → ((k ≡ j) × (x ≡ v)) ⊎ seeds' k x) (back : (k x : ℕ) → seeds' k x → seeds k x)
       (kept : (k x : ℕ) → queued k x → queued' k x) (new : queued' j v) (out : (k x : ℕ) → queued' k x → ((k ≡ j) × (x ≡ v)) ⊎ queued k x)
     where
