@@ -7,6 +7,7 @@ use Rattle.ifmap_hall.specs.SeatViews.{taken_of, ticket_of, with_ticket, with_bo
 use Rattle.ifmap_hall.proofs.Taking.{waits_drawn, lies_first, finds_book, brings_book, holds_brought, goes_on_to}
 use Rattle.ifmap_hall.proofs.hall_asks.ask_seat.Given.{Over}
 use Rattle.ifmap_hall.proofs.hall_asks.ask_seat.Goals as goal
+use Rattle.ifmap_hall.proofs.hall_asks.ask_seat.Goals.{After-exchange-none}
 
 pub await_turn-requires-clause-waits : goal.await_turn-requires-clause-waits
 await_turn-requires-clause-waits g c =
@@ -29,39 +30,8 @@ exchange-none-requires g c =
       (None, ap (λ m. m.1) x.3 ∙ ap (λ r. (0, None) ∷ r) (sym (ap (λ m. rest m.1) x.3))),
     )
 
-pub pass_on-requires-clause-holds : goal.pass_on-requires-clause-holds
-pass_on-requires-clause-holds g c =
-    let d = c.draw-ticket.ensures.ticket in
-    let s = c.await_turn.ensures.served in
-    let b = c.turn_of-answer.new.book in
-    let m = c.args.seat.now.me in
-    let last = c.exchange-none.new.seat.me in
-    holds_brought last m.0 d.0 s.0 b c.requires.idle.part
-    (brings_book g.M.Machine.next g.M.Machine.weight_of m c.draw-ticket.new.seat.me c.await_turn.new.seat.me c.exchange.new.seat.me last
-    d.0 b d.2 s
-    c.exchange.ensures.3 c.exchange-none.ensures.3)
-
-pub pass_on-requires-clause-book : goal.pass_on-requires-clause-book
-pass_on-requires-clause-book g c =
-    let next = g.M.Machine.next in
-    let weight = g.M.Machine.weight_of in
-    let d = c.draw-ticket.ensures.ticket in
-    let s = c.await_turn.ensures.served in
-    let b = c.turn_of-answer.new.book in
-    let m = c.args.seat.now.me in
-    let n = c.draw-ticket.new.seat.me in
-    let o = c.await_turn.new.seat.me in
-    let brought = brings_book next weight m n o c.exchange.new.seat.me c.exchange-none.new.seat.me d.0 b d.2 s c.exchange.ensures.3
-    c.exchange-none.ensures.3 in
-    let found = finds_book next weight m n o d.0 c.exchange.result c.in-Some.book d.2 s c.exchange.ensures.2 c.in-Some.is in (
-      b,
-      ap (λ p. p.1) brought,
-      subst (λ p. Gives next weight p.0.view.terms (taken_of p.0.stage) b) (sym brought)
-          (c.turn_of-answer.ensures m.0.view s.0 found).gives,
-    )
-
 -- what the turn of the book that was found tells
-turn_told : (g : Over) (c : goal.Joined-none g)
+turn_told : (g : Over) (c : After-exchange-none g)
     → Turned g.M.Machine.next g.M.Machine.weight_of g.M.Machine.holds_on g.M.Machine.reply c.args.seat.now.me.0.view
     c.await_turn.ensures.served.0 c.turn_of-answer.new.book
     c.args.number c.args.event c.turn_of-answer.result
@@ -74,6 +44,34 @@ turn_told g c =
     c.in-Some.book d.2 s
     c.exchange.ensures.2 c.in-Some.is)
 
+-- the seat with the book that the turn left
+brought : (g : Over) (c : After-exchange-none g)
+    → c.exchange-none.new.seat.me ≡ (
+      with_book (with_ticket c.args.seat.now.me.0 c.draw-ticket.ensures.ticket.0) c.await_turn.ensures.served.0,
+      (0, Some c.turn_of-answer.new.book) ∷ [],
+    )
+brought g c =
+    let d = c.draw-ticket.ensures.ticket in
+    brings_book g.M.Machine.next g.M.Machine.weight_of c.args.seat.now.me c.draw-ticket.new.seat.me c.await_turn.new.seat.me
+    c.exchange.new.seat.me c.exchange-none.new.seat.me d.0 c.turn_of-answer.new.book d.2 c.await_turn.ensures.served
+    c.exchange.ensures.3 c.exchange-none.ensures.3
+
+pub pass_on-requires-clause-holds : goal.pass_on-requires-clause-holds
+pass_on-requires-clause-holds g c =
+    holds_brought c.exchange-none.new.seat.me c.args.seat.now.me.0 c.draw-ticket.ensures.ticket.0 c.await_turn.ensures.served.0
+    c.turn_of-answer.new.book c.requires.idle.part
+    (brought g (goal.at.pass_on-requires-clause-holds g c).After-exchange-none)
+
+pub pass_on-requires-clause-book : goal.pass_on-requires-clause-book
+pass_on-requires-clause-book g c =
+    let place = (goal.at.pass_on-requires-clause-book g c).After-exchange-none in
+    let b = c.turn_of-answer.new.book in (
+      b,
+      ap (λ p. p.1) (brought g place),
+      subst (λ p. Gives g.M.Machine.next g.M.Machine.weight_of p.0.view.terms (taken_of p.0.stage) b) (sym (brought g place))
+          (turn_told g place).gives,
+    )
+
 -- the seat after the turn
 seat_after : (g : Over) (c : goal.Joined-none g)
     → c.pass_on.new.seat.me ≡ (
@@ -83,15 +81,9 @@ seat_after : (g : Over) (c : goal.Joined-none g)
       [],
     )
 seat_after g c =
-    let next = g.M.Machine.next in
-    let d = c.draw-ticket.ensures.ticket in
-    let s = c.await_turn.ensures.served in
-    let b = c.turn_of-answer.new.book in
-    let m = c.args.seat.now.me in
-    let q = c.exchange-none.new.seat.me in
-    goes_on_to next g.M.Machine.reply q c.pass_on.new.seat.me (with_book (with_ticket m.0 d.0) s.0) b
-    (brings_book next g.M.Machine.weight_of m c.draw-ticket.new.seat.me c.await_turn.new.seat.me c.exchange.new.seat.me q d.0 b d.2 s
-    c.exchange.ensures.3 c.exchange-none.ensures.3)
+    goes_on_to g.M.Machine.next g.M.Machine.reply c.exchange-none.new.seat.me c.pass_on.new.seat.me
+    (with_book (with_ticket c.args.seat.now.me.0 c.draw-ticket.ensures.ticket.0) c.await_turn.ensures.served.0) c.turn_of-answer.new.book
+    (brought g (goal.at.returns-clause-took g c).After-exchange-none)
     c.pass_on.ensures.passed
 
 pub returns-clause-rests : goal.returns-clause-rests
@@ -100,10 +92,11 @@ returns-clause-rests g c =
     (record { slots = refl; idle = refl; part = c.requires.idle.part }, refl)
 
 pub returns-clause-took : goal.returns-clause-took
-returns-clause-took g c = subst (λ n. TookATurn c.args.seat.now.me.0.view n.0.view) (sym (seat_after g c)) (turn_told g c).took
+returns-clause-took g c = subst (λ n. TookATurn c.args.seat.now.me.0.view n.0.view) (sym (seat_after g c))
+    (turn_told g (goal.at.returns-clause-took g c).After-exchange-none).took
 
 pub returns-clause-answered : goal.returns-clause-answered
 returns-clause-answered g c =
     subst (λ n. AnsweredFromHistory g.M.Machine.next g.M.Machine.holds_on g.M.Machine.reply c.args.seat.now.me.0.view n.0.view c.args.number
     c.args.event c.turn_of-answer.result)
-    (sym (seat_after g c)) (turn_told g c).answered
+    (sym (seat_after g c)) (turn_told g (goal.at.returns-clause-answered g c).After-exchange-none).answered
