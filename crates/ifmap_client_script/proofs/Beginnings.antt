@@ -1,10 +1,9 @@
 -- Lines at the front of bytes: where the first newline stands, a line ends.
-use Rattle.std.proofs.Common.{◌≡◌, ◌≢◌, ◌⊎◌, inl, inr, refl, ap, ◌∙◌, sym, subst, ℕ, zero, suc, ◌+◌, ◌<◌, ◌≤◌, List, [], ◌∷◌, ◌++◌, length, take, drop, arith}
-use Rattle.std.specs.Prelude.{slice_index, Option, Some, None, Result, Ok, Err}
-use Rattle.std.proofs.lemmas.List.{drop_more, get_or-take, get_or_append_left, length-take-le, take-append-drop, take-append-le, take_at}
-use Rattle.std.proofs.lemmas.Bool.{cases_lt}
-use Rattle.std.proofs.Math.Seq.{get_or-append_seam}
+use Rattle.std.proofs.Common.{◌≡◌, ◌≢◌, ◌⊎◌, inl, inr, ap, sym, subst, ℕ, ◌+◌, ◌<◌, ◌≤◌, List, [], ◌++◌, length, take, drop, arith}
+use Rattle.std.specs.Prelude.{Option, Some, None, Result, Ok, Err}
+use Rattle.std.proofs.lemmas.List.{length-take-le}
 use Rattle.ifmap_elem.specs.Chars.{line_feed}
+use Rattle.ifmap_input.specs.FirstPlaceLaws.{cut_at_first_place, first_place_is, none_is_short, text_before}
 use Rattle.ifmap_client.specs.Lines.{IsLine, line_limit}
 use Rattle.ifmap_client.specs.declared.lines.Line.{Line}
 use Rattle.ifmap_client_script.specs.declared.outcomes.ScriptFailure.{ScriptFailure}
@@ -15,41 +14,6 @@ use Rattle.ifmap_client_script.specs.TakenBytes.{WaitsForLine, IsLineEnd, IsLine
 use Rattle.ifmap_client_script.specs.Scripts.{BeginsLine, HasNoNewline, IsBadLine, IsWithinLineLimits}
 use Rattle.ifmap_client_script.specs.Turns.{ReadsAt, ReadsNext}
 
--- the first newline after a text without one is the one that follows it
-first_is : (text rest : List ℕ) (place : ℕ) → HasNoNewline text → slice_index (text ++ line_feed ∷ rest) place ≡ line_feed
-    → ((k : ℕ) → k < place → slice_index (text ++ line_feed ∷ rest) k ≢ line_feed) → place ≡ length text
-first_is [] rest zero plain at first = refl
-first_is [] rest (suc place) plain at first = absurd (first 0 (omega arith) refl)
-first_is (b ∷ text) rest zero plain at first = absurd (plain 0 (omega arith) at)
-first_is (b ∷ text) rest (suc place) plain at first =
-    ap suc (first_is text rest place (λ k h. plain (suc k) (omega arith)) at (λ k h. first (suc k) (omega arith)))
-
--- so it is where more bytes come after those that have it
-module _ (offset : ℕ) (bytes more text rest : List ℕ) (begins : BeginsLine offset (bytes ++ more) text rest) where
-  line_end_is : (place : ℕ) → IsLineEnd bytes place → place ≡ length text
-  line_end_is place e =
-      first_is text rest place begins.plain
-      (ap (λ (b : List ℕ). slice_index b place) (sym begins.bytes_are) ∙ get_or_append_left bytes more 0 place e.within ∙ e.there)
-      (λ k h. λ (is : slice_index (text ++ line_feed ∷ rest) k ≡ line_feed). e.first k h
-      (sym (get_or_append_left bytes more 0 k (let w = e.within in omega arith))
-      ∙ ap (λ (b : List ℕ). slice_index b k) begins.bytes_are ∙ is))
-
-  text_is : (place : ℕ) → IsLineEnd bytes place → text ≡ take place bytes
-  text_is place e =
-      sym (take_at text (line_feed ∷ rest) (length text) refl) ∙ ap (λ (b : List ℕ). take (length text) b) (sym begins.bytes_are)
-      ∙ ap (λ (n : ℕ). take n (bytes ++ more)) (sym (line_end_is place e))
-      ∙ take-append-le place bytes more (let w = e.within in omega arith)
-
-  -- bytes without a newline are not longer than the line that they begin
-  none_short : HasNoNewline bytes → length bytes ≤ length text
-  none_short plain = at (cases_lt (length text) (length bytes))
-    where
-      at : ((length text < length bytes) ⊎ (length bytes ≤ length text)) → length bytes ≤ length text
-      at (inl h) =
-          absurd (plain (length text) h (sym (get_or_append_left bytes more 0 (length text) h)
-          ∙ ap (λ (b : List ℕ). slice_index b (length text)) begins.bytes_are ∙ get_or-append_seam text line_feed rest 0))
-      at (inr h) = h
-
 -- the line that ends at the first newline
 pub begins_at : (offset place : ℕ) (bytes : List ℕ) → IsLineEnd bytes place → IsWithinLineLimits offset place
     → BeginsLine offset bytes (take place bytes) (drop (place + 1) bytes)
@@ -57,14 +21,8 @@ begins_at offset place bytes e within =
     let w = e.within in
     let size : length (take place bytes) ≡ place = length-take-le place bytes (omega arith) in
     let ends = within.ends in
-    record {
-      bytes_are = sym (take-append-drop place bytes)
-          ∙ ap (λ (b : List ℕ). take place bytes ++ b) (drop_more bytes place 0 e.within
-          ∙ ap (λ (b : ℕ). b ∷ drop (place + 1) bytes) e.there);
-      plain = λ k h. λ (is : slice_index (take place bytes) k ≡ line_feed). e.first k (omega arith)
-          (sym (get_or-take place bytes k 0 (omega arith)) ∙ is);
-      ends = omega arith;
-    }
+    let cut = cut_at_first_place line_feed bytes place e in
+    record { bytes_are = cut.0; plain = cut.1; ends = omega arith }
 
 some_at : (place : ℕ) (bytes : List ℕ) → place < length bytes → bytes ≢ []
 some_at place bytes h e = let none : length bytes ≡ 0 = ap length e in absurd (omega arith)
@@ -75,7 +33,8 @@ pub bad_at : (offset place : ℕ) (bytes : List ℕ) (known : Known) → IsLineE
 bad_at offset place bytes known e none = (
   some_at place bytes e.within,
   λ more text rest line begins means can.
-      none line (subst (λ (t : List ℕ). IsLine t line) (text_is offset bytes more text rest begins place e) means) can,
+      let same = text_before line_feed bytes more text rest begins.bytes_are begins.plain place e in
+      none line (subst (λ (t : List ℕ). IsLine t line) same means) can,
 )
 
 -- a line that is too long
@@ -89,12 +48,13 @@ bad_long offset bytes known long = (
     at : (more text rest : List ℕ) (begins : BeginsLine offset (bytes ++ more) text rest) → length text ≤ line_limit
         → IsLineEnd bytes long.size ⊎ ((long.size ≡ length bytes) × HasNoNewline bytes) → ⊥
     at more text rest begins short (inl e) =
-        let is : long.size ≡ length text = line_end_is offset bytes more text rest begins long.size e in
+        let is : long.size ≡ length text =
+        first_place_is line_feed bytes more text rest begins.bytes_are begins.plain long.size e in
         let ends = begins.ends in
         long.long (record { short = omega arith; ends = omega arith })
     at more text rest begins short (inr e) =
         let is = e.0 in
-        let less = none_short offset bytes more text rest begins e.1 in
+        let less = none_is_short line_feed bytes more text rest begins.bytes_are begins.plain e.1 in
         let ends = begins.ends in
         long.long (record { short = omega arith; ends = omega arith })
 

@@ -1,7 +1,8 @@
 -- What the bytes of a script are as lines, and how far they are carried out.
-use Rattle.std.specs.Prelude.{◌≡◌, ◌≢◌, ◌⊎◌, ℕ, ◌+◌, ◌≤◌, ◌<◌, List, [], ◌∷◌, ◌++◌, length, slice_index, Option}
+use Rattle.std.specs.Prelude.{◌≡◌, ◌≢◌, ◌⊎◌, ℕ, ◌+◌, ◌≤◌, List, [], ◌∷◌, ◌++◌, length, Option}
 use Rattle.std.specs.Io.KnownBytes.{IsAtEnd}
 use Rattle.ifmap_elem.specs.Chars.{line_feed}
+use Rattle.ifmap_input.specs.FirstPlaces.{HasNone}
 use Rattle.ifmap_input.specs.Scripts.{longest_script}
 use Rattle.ifmap_client.specs.Lines.{IsLine, line_limit}
 use Rattle.ifmap_client.specs.declared.lines.Line.{Line}
@@ -9,7 +10,7 @@ use Rattle.ifmap_client_script.specs.Deeds.{CanDo, Deed, IsDeedFor, Known, after
 
 -- no newline is among the bytes
 abbrev pub HasNoNewline : List ℕ → Type 0
-HasNoNewline text = (k : ℕ) → k < length text → slice_index text k ≢ line_feed
+HasNoNewline = HasNone line_feed
 
 -- a line of that many bytes, of which the first stands at an offset, is within its limits
 pub record IsWithinLineLimits (offset size : ℕ) : Type 0 where

@@ -2,6 +2,7 @@
 use Rattle.std.specs.Prelude.{◌≡◌, ◌≢◌, ◌⊎◌, ℕ, ◌-◌, ◌<◌, Bool, true, false, List, [], ◌∷◌, ◌++◌, length, slice_index, Option, Some, None, Result, Ok, Err}
 use Rattle.std.specs.Io.KnownBytes.{Consumes, IsAtEnd}
 use Rattle.ifmap_elem.specs.Chars.{line_feed}
+use Rattle.ifmap_input.specs.FirstPlaces.{IsFirstPlace}
 use Rattle.ifmap_client_script.specs.declared.outcomes.ScriptFailure.{ScriptFailure}
 use Rattle.ifmap_client_script.specs.declared.outcomes.ScriptFailure.TheVariants as failure
 use Rattle.ifmap_client_script.specs.Scripts.{AwaitsLine, HasNoNewline, IsWithinLineLimits}
@@ -47,10 +48,8 @@ pub record Loses (left_old left_new : Option (List ℕ)) (old : TakenBytes) : Ty
   pub idle : old.ended ≡ true → left_new ≡ left_old
 
 -- the first newline stands at this place
-pub record IsLineEnd (bytes : List ℕ) (place : ℕ) : Type 0 where
-  pub within : place < length bytes
-  pub there : slice_index bytes place ≡ line_feed
-  pub first : (k : ℕ) → k < place → slice_index bytes k ≢ line_feed
+abbrev pub IsLineEnd : (bytes : List ℕ) (place : ℕ) → Type 0
+IsLineEnd = IsFirstPlace line_feed
 
 -- a line begins here that is longer than one can be, whatever comes after
 pub record IsLineTooLong (offset : ℕ) (bytes : List ℕ) : Type 0 where

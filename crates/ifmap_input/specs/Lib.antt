@@ -2,3 +2,5 @@
 pub mod Inputs
 pub mod InputLaws
 pub mod Scripts
+pub mod FirstPlaces
+pub mod FirstPlaceLaws
