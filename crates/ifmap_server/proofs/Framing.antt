@@ -1,16 +1,15 @@
 -- From the first line of what is pending to the frame that begins there, or to none.
--- Where a frame begins, the line that is there is that of its header (`line_place`, `its_header`), so it ends where the
+-- Where a frame begins, the line that is there is that of its header (`its_header`, by `text_before`), so it ends where the
 -- header says. From this: no frame begins where no line is, where the line is no header, where the frame is too long or cut;
 -- a whole one does where its bytes are there (`whole`). At the end: what is told of a fault, and which reads are due.
-use Rattle.std.proofs.Common.{◌≡◌, ◌≢◌, ℕ, suc, ◌+◌, ◌-◌, ◌<◌, ◌≤◌, List, [], ◌∷◌, ◌++◌, length, length-append, get_or, take, drop, replicate, Option, None, Some, IfSome, Err, inl, inr, arith, append-nil, append_assoc, refl, sym, ap, subst, ◌∙◌}
-use Rattle.std.proofs.lemmas.Bool.{cases_lt}
-use Rattle.std.proofs.lemmas.List.{get_or_append_left, take-append-le}
-use Rattle.std.proofs.lemmas.List.{drop_all, length-drop, length-replicate, length-take-le}
-use Rattle.std.proofs.Math.Seq.{get_or-append_seam, take-append_seam}
+use Rattle.std.proofs.Common.{◌≡◌, ◌≢◌, ℕ, ◌+◌, ◌-◌, ◌<◌, ◌≤◌, List, [], ◌∷◌, ◌++◌, length, length-append, take, drop, replicate, Option, None, Some, IfSome, Err, inl, inr, arith, append-nil, append_assoc, refl, sym, ap, subst, ◌∙◌}
+use Rattle.std.proofs.lemmas.List.{drop_all, length-drop, length-replicate, length-take-le, take-append-le}
 use Rattle.std.specs.Io.KnownBytes.{IsAtEnd}
 use Rattle.std.specs.Prelude.{slice_range}
-use Rattle.ifmap_lemmas.specs.Joined.{cut_at_member, long_in_front, some_in_front, none_at_end}
+use Rattle.ifmap_lemmas.specs.Joined.{long_in_front, some_in_front, none_at_end}
 use Rattle.std.proofs.lemmas.List.Folds.{drop_split}
+use Rattle.ifmap_elem.specs.Chars.{line_feed}
+use Rattle.ifmap_input.specs.FirstPlaceLaws.{cut_at_first_place, first_after_text, first_place_is, first_place_stays, text_before}
 use Rattle.ifmap_input.specs.Inputs.{TakesFromSource}
 use Rattle.ifmap_input.specs.Scripts.{longest_script}
 use Rattle.ifmap_requests.specs.declared.errors.Refusal.TheVariants.{Unreadable}
@@ -23,10 +22,7 @@ use Rattle.ifmap_server.specs.Turns.{BeginsNone, IsFramed, frame_within}
 use Rattle.ifmap_server.proofs.HeaderLines.{header_of_line_one, line_of, line_text}
 use Rattle.ifmap_server.proofs.Scripts.{BeginsWith, begins_alike, begins_line, frame_length, header_of_frame, line_begins}
 
--- the newline of a frame's header, in the bytes that it begins
-newline_at : (line bytes : List ℕ) (f : Frame) (rest : List ℕ) → BeginsWith line bytes f rest → get_or bytes (length line) 0 ≡ 10
-newline_at line bytes f rest w = ap (λ (b : List ℕ). get_or b (length line) 0) w.text ∙ get_or-append_seam line 10 (f.body ++ rest) 0
-
+-- the bytes that a frame begins are as long as its line, the newline, the body and the rest
 newline_within : (line bytes : List ℕ) (f : Frame) (rest : List ℕ) → BeginsWith line bytes f rest
     → length line + 1 + (length f.body + length rest) ≡ length bytes
 newline_within line bytes f rest w =
@@ -37,43 +33,18 @@ newline_within line bytes f rest w =
 pub no_line_none : (offset : ℕ) (bytes : List ℕ) → HasNoLine bytes → BeginsNone offset bytes
 no_line_none offset bytes none f rest b =
     let l = begins_line offset bytes f rest b in
-    let n = newline_within l.0 bytes f rest l.1 in
+    let at = first_after_text line_feed bytes l.0 (f.body ++ rest) l.1.text l.1.no_newline in
     let s = l.1.short in
-    none (length l.0) (omega arith) (omega arith) (newline_at l.0 bytes f rest l.1)
+    none (length l.0) (omega arith) at.within at.there
 
 -- ---- the line that is there is that of the frame
-
-line_place : (bytes more line : List ℕ) (place : ℕ) (f : Frame) (rest : List ℕ) → IsHeaderLineEnd bytes place
-    → BeginsWith line (bytes ++ more) f rest → place ≡ length line
-line_place bytes more line place f rest is w =
-    elim (cases_lt place (length line)) [
-      | inl early ↦
-          absurd (w.no_newline place early
-          (sym (get_or_append_left line (10 ∷ (f.body ++ rest)) 0 place early) ∙ ap (λ (b : List ℕ). get_or b place 0) (sym w.text)
-          ∙ get_or_append_left bytes more 0 place is.within ∙ is.there))
-      | inr late ↦
-          elim (cases_lt (length line) place) [
-            | inl before ↦
-                let within = is.within in
-                absurd (is.first (length line) before
-                (sym (get_or_append_left bytes more 0 (length line) (omega arith)) ∙ newline_at line (bytes ++ more) f rest w))
-            | inr not ↦ omega arith
-          ]
-    ]
-
-line_taken : (bytes more line : List ℕ) (place : ℕ) (f : Frame) (rest : List ℕ) → IsHeaderLineEnd bytes place
-    → BeginsWith line (bytes ++ more) f rest → line ≡ take place bytes
-line_taken bytes more line place f rest is w =
-    let within = is.within in
-    sym (take-append_seam line (10 ∷ (f.body ++ rest))) ∙ ap (take (length line)) (sym w.text)
-    ∙ ap (λ (n : ℕ). take n (bytes ++ more)) (sym (line_place bytes more line place f rest is w))
-    ∙ take-append-le place bytes more (omega arith)
 
 its_header : (offset : ℕ) (bytes more : List ℕ) (place : ℕ) (f : Frame) (rest : List ℕ) → IsHeaderLineEnd bytes place
     → BeginsFrame offset (bytes ++ more) f rest → IsHeader (take place bytes) (header_of_frame f)
 its_header offset bytes more place f rest is b =
     let l = begins_line offset (bytes ++ more) f rest b in
-    subst (λ (line : List ℕ). IsHeader line (header_of_frame f)) (line_taken bytes more l.0 place f rest is l.1) l.1.header
+    subst (λ (line : List ℕ). IsHeader line (header_of_frame f))
+    (text_before line_feed bytes more l.0 (f.body ++ rest) l.1.text l.1.no_newline place is.first) l.1.header
 
 -- where the line is no header, no frame begins, whatever follows
 pub no_header_none : (offset : ℕ) (bytes more : List ℕ) (place : ℕ) → IsHeaderLineEnd bytes place
@@ -90,7 +61,7 @@ ends_there offset bytes more place h f rest is header b =
     let same : h ≡ header_of_frame f = sym (header_of_line_one (take place bytes) h header)
     ∙ header_of_line_one (take place bytes) (header_of_frame f) its in
     let size : h.size ≡ length f.body = ap (λ (x : Header). x.size) same in
-    let at = line_place bytes more l.0 place f rest is l.1 in
+    let at = first_place_is line_feed bytes more l.0 (f.body ++ rest) l.1.text l.1.no_newline place is.first in
     let long = l.1.size in
     let ends = b.ends in
     let within = newline_within l.0 (bytes ++ more) f rest l.1 in
@@ -111,14 +82,7 @@ too_short_none offset bytes more place h is header short f rest b = let e = ends
 -- ---- more bytes after a line
 
 pub line_more : (bytes more : List ℕ) (place : ℕ) → IsHeaderLineEnd bytes place → IsHeaderLineEnd (bytes ++ more) place
-line_more bytes more place is =
-    let within = is.within in
-    record {
-      early = is.early;
-      within = omega (arith, length-append bytes more);
-      there = get_or_append_left bytes more 0 place within ∙ is.there;
-      first = λ k before e. is.first k before (sym (get_or_append_left bytes more 0 k (omega arith)) ∙ e);
-    }
+line_more bytes more place is = record { early = is.early; first = first_place_stays line_feed bytes more place is.first }
 
 -- ---- the frame
 
@@ -133,12 +97,12 @@ pub framed : (offset : ℕ) (bytes : List ℕ) (place : ℕ) (there : TakenFrame
 framed offset bytes place there is header start end within ends =
     let h = there.header in
     let body = slice_range bytes there.start there.end in
-    let early = is.within in
+    let early = is.first.within in
     let long : length (take place bytes) ≡ place = length-take-le place bytes (omega arith) in
     let left = length-drop there.start bytes in
     let size : length body ≡ h.size = length-take-le (there.end - there.start) (drop there.start bytes) (omega arith) ∙ omega arith in
     let text : bytes ≡ take place bytes ++ 10 ∷ (body ++ drop there.end bytes) =
-    cut_at_member bytes place 0 10 early is.there ∙ ap (λ (b : List ℕ). take place bytes ++ 10 ∷ b) (ap
+    (cut_at_first_place line_feed bytes place is.first).0 ∙ ap (λ (b : List ℕ). take place bytes ++ 10 ∷ b) (ap
     (λ (n : ℕ). drop n bytes) (sym start) ∙ drop_split bytes there.start there.end (omega arith)) in
     let frame : Frame = frame_within there bytes unread in
     let same : header_of_frame frame ≡ h =
@@ -170,7 +134,7 @@ pub header_fault : (offset : ℕ) (left : Option (List ℕ)) (pending : List ℕ
     (λ rest. (pending ++ rest ≢ []) × BeginsNone offset (pending ++ rest))
 header_fault offset None pending place is none = tt
 header_fault offset (Some rest) pending place is none =
-    let within = is.within in
+    let within = is.first.within in
     (long_in_front pending rest (omega arith), no_header_none offset pending rest place is none)
 
 pub long_fault : (offset : ℕ) (left : Option (List ℕ)) (pending : List ℕ) (place : ℕ) (h : Header) → IsHeaderLineEnd pending place
@@ -178,7 +142,7 @@ pub long_fault : (offset : ℕ) (left : Option (List ℕ)) (pending : List ℕ) 
     (λ rest. (pending ++ rest ≢ []) × BeginsNone offset (pending ++ rest))
 long_fault offset None pending place h is header long = tt
 long_fault offset (Some rest) pending place h is header long =
-    let within = is.within in
+    let within = is.first.within in
     (long_in_front pending rest (omega arith), too_long_none offset pending rest place h is header long)
 
 module _ (offset : ℕ) (left_old left : Option (List ℕ)) (mid new : List ℕ) (place : ℕ) (h : Header)
@@ -193,7 +157,7 @@ module _ (offset : ℕ) (left_old left : Option (List ℕ)) (mid new : List ℕ)
       (λ rest. (new ++ rest ≢ []) × BeginsNone offset (new ++ rest))
   cut_fault None end short = tt
   cut_fault (Some rest) end short =
-      let within = is.within in
+      let within = is.first.within in
       let same : new ++ rest ≡ new = ap (λ (b : List ℕ). new ++ b) end ∙ append-nil new in
       let e = ap length took.grown in
       let m = length-append mid took.got in
@@ -202,7 +166,7 @@ module _ (offset : ℕ) (left_old left : Option (List ℕ)) (mid new : List ℕ)
   pub whole : place + 1 + h.size ≤ length new → offset + (place + 1 + h.size) ≤ longest_script
       → IsFramed offset new (record { header = h; start = place + 1; end = place + 1 + h.size })
   whole within ends =
-      let early = is.within in
+      let early = is.first.within in
       let line : IsHeaderLineEnd new place = subst (λ (b : List ℕ). IsHeaderLineEnd b place) (sym took.grown)
       (line_more mid took.got place is) in
       let front : take place mid ≡ take place new = sym (take-append-le place mid took.got (omega arith))

@@ -2,8 +2,10 @@
 -- A reader of a frame that is total and pure (`read_header`) goes back over each frame that begins, so that one frame begins
 -- at most but for its meaning (`begins_alike`); its body has one meaning. From this: bytes are one script (`script_one`), and where
 -- a frame begins, each script begins with it (`script_begins`).
-use Rattle.std.proofs.Common.{◌≡◌, ◌≢◌, ℕ, ◌+◌, ◌<◌, ◌≤◌, List, [], ◌∷◌, ◌++◌, length, length-append, get_or, take, drop, Option, Some, None, arith, refl, sym, ap, subst, ◌∙◌}
+use Rattle.std.proofs.Common.{◌≡◌, ◌≢◌, ℕ, ◌+◌, ◌<◌, ◌≤◌, List, [], ◌∷◌, ◌++◌, length, length-append, take, drop, Option, Some, None, arith, refl, sym, ap, subst, ◌∙◌}
 use Rattle.std.proofs.lemmas.List.{append_assoc, take_at, drop_at}
+use Rattle.ifmap_elem.specs.Chars.{line_feed}
+use Rattle.ifmap_input.specs.FirstPlaces.{HasNone}
 use Rattle.ifmap_input.specs.Scripts.{longest_script}
 use Rattle.ifmap_requests.specs.Laws.{OneMeaning}
 use Rattle.ifmap_requests.specs.Means.{Means}
@@ -34,7 +36,7 @@ pub record BeginsWith (line bytes : List ℕ) (f : Frame) (rest : List ℕ) : Ty
   pub header : IsHeader line (header_of_frame f)
   pub text : bytes ≡ line ++ 10 ∷ (f.body ++ rest)
   pub size : length (frame_text f) ≡ length line + 1 + length f.body
-  pub no_newline : (k : ℕ) → k < length line → get_or line k 0 ≢ 10
+  pub no_newline : HasNone line_feed line
   pub short : length line ≤ 96
 
 cut_line : (a b c : List ℕ) → a ++ 10 ∷ b ++ c ≡ a ++ 10 ∷ (b ++ c)

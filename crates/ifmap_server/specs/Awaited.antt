@@ -1,15 +1,14 @@
 -- A frame of which more bytes are due, and the line that it begins with.
 use Rattle.std.specs.Prelude.{◌≡◌, ◌≢◌, ℕ, ◌<◌, List, [], ◌++◌, length, slice_index, ◌⊎◌}
 use Rattle.ifmap_elem.specs.Chars.{line_feed}
+use Rattle.ifmap_input.specs.FirstPlaces.{IsFirstPlace}
 use Rattle.ifmap_server.specs.Frames.{Frame, longest_header}
 use Rattle.ifmap_server.specs.Script.{BeginsFrame}
 
 -- the first newline stands at this place, where that of a header can
 pub record IsHeaderLineEnd (bytes : List ℕ) (place : ℕ) : Type 0 where
   pub early : place < longest_header
-  pub within : place < length bytes
-  pub there : slice_index bytes place ≡ line_feed
-  pub first : (k : ℕ) → k < place → slice_index bytes k ≢ line_feed
+  pub first : IsFirstPlace line_feed bytes place
 
 -- no newline stands where that of a header can
 abbrev pub HasNoLine : List ℕ → Type 0
