@@ -16,9 +16,9 @@ use Rattle.ifmap_lemmas.specs.Ties.{ties_by_second}
 use Rattle.ifmap_lemmas.specs.Absent.{none_where_no_value}
 use Rattle.ifmap_elem.specs.Namespaces.{name_prefixes}
 use Rattle.ifmap_elem.specs.Scopes.{xml_space}
-use Rattle.ifmap_elem.specs.laws.NamespaceLaws.{Texts, keyed, none_more}
+use Rattle.ifmap_elem.specs.laws.NamespaceLaws.{Texts, none_more, one_key_more}
 use Rattle.ifmap_elem.specs.printer.Keys.{key_order, space_word}
-use Rattle.ifmap_elem.proofs.NumberLaws.{labelled}
+use Rattle.ifmap_elem.proofs.NumberLaws.{one_label_more}
 
 pub key_ties : (a q : List ℕ) → is_eq (key_order a q) ≡ is_eq (slice_cmp nat_cmp a q)
 key_ties a q =
@@ -63,7 +63,8 @@ pub record IsPlaced (new : List ℕ → Option (List ℕ)) (before after : Texts
   pub more : after ≡ before ++ s ∷ []
   pub unknown : is_some (lookup (bytes_eq s) (name_prefixes before)) ≡ false
 
-pub placed : (old new : List ℕ → Option (List ℕ)) (before : Texts) (first middle after : Places) (s : Bor (List ℕ)) (key label : List ℕ)
+pub one_place_more : (old new : List ℕ → Option (List ℕ)) (before : Texts) (first middle after : Places) (s : Bor (List ℕ))
+    (key label : List ℕ)
     (found : Option (List ℕ)) (count : ℕ)
     → s.now ≢ [] → bytes_of first ≡ before
     → ((q : List ℕ) → old q ≡ lookup (bytes_eq q) (name_prefixes (bytes_of first)))
@@ -72,7 +73,7 @@ pub placed : (old new : List ℕ → Option (List ℕ)) (before : Texts) (first 
     → (found ≡ None → (q : List ℕ) → new q ≡ cond (is_eq (key_order key q)) (Some label) (old q))
     → middle ≡ first → after ≡ middle ++ s ∷ [] → count ≡ length first → label ≡ codes "n" ++ numeral (count + 1)
     → IsPlaced new before (bytes_of after) s.now label
-placed old new before first middle after s key label found count some view was bare k f not puts kept pushed long is =
+one_place_more old new before first middle after s key label found count some view was bare k f not puts kept pushed long is =
     let none : lookup (bytes_eq s.now) (name_prefixes (bytes_of first)) ≡ None =
     sym (was s.now) ∙ ap old (sym k) ∙ sym f ∙ none_where_no_value found not in
     let more : bytes_of after ≡ bytes_of first ++ s.now ∷ [] =
@@ -82,9 +83,9 @@ placed old new before first middle after s key label found count some view was b
     let number : label ≡ codes "n" ++ numeral (length (bytes_of first) + 1) =
     is ∙ ap (λ (n : ℕ). codes "n" ++ numeral (n + 1)) (long ∙ sym (as_many first)) in
     record {
-      keys = keyed old new (bytes_of first) (bytes_of after) s.now key s.now label was now k refl more number none;
+      keys = one_key_more old new (bytes_of first) (bytes_of after) s.now key s.now label was now k refl more number none;
       bare = none_more (bytes_of first) (bytes_of after) s.now s.now some refl more bare;
-      own = labelled old new (bytes_of first) (bytes_of after) s.now key s.now label was now k refl more number none;
+      own = one_label_more old new (bytes_of first) (bytes_of after) s.now key s.now label was now k refl more number none;
       more = more ∙ ap (λ l. l ++ s.now ∷ []) view;
       unknown = ap is_some (ap (λ l. lookup (bytes_eq s.now) (name_prefixes l)) (sym view) ∙ none);
     }

@@ -36,8 +36,8 @@ use Rattle.std.proofs.lemmas.List.Concat.{flat_map_single}
 abbrev Spaces : Type 0
 Spaces = List (List ℕ)
 
-abbrev Rows : Type 0
-Rows = List (List ℕ × List ℕ)
+abbrev PrefixRows : Type 0
+PrefixRows = List (List ℕ × List ℕ)
 
 pub front_same : (xs : Spaces) → IsFront xs xs
 front_same xs = ([], sym (append-nil xs))
@@ -112,7 +112,7 @@ pub adds_no_piece : (a : Spaces) (s : List ℕ) → Adds a [] a (λ rows. []) s 
 adds_no_piece a s = record { added = adds_none a; extends = front_same a; written = λ final f. sym (append-nil s) }
 
 -- one piece and then another
-pub adds_two : (a b c xs ys : Spaces) (p q : Rows → List ℕ) (s t u : List ℕ) → Adds a xs b p s t → Adds b ys c q t u
+pub adds_two : (a b c xs ys : Spaces) (p q : PrefixRows → List ℕ) (s t u : List ℕ) → Adds a xs b p s t → Adds b ys c q t u
     → Adds a (xs ++ ys) c (λ rows. p rows ++ q rows) s u
 adds_two a b c xs ys p q s t u h k = record {
   added = adds_both a b c xs ys h.added k.added;
@@ -122,7 +122,7 @@ adds_two a b c xs ys p q s t u h k = record {
 }
 
 -- bytes and then a piece
-adds_before : (a b xs : Spaces) (x : List ℕ) (p : Rows → List ℕ) (s t u : List ℕ) → t ≡ s ++ x → Adds a xs b p t u
+adds_before : (a b xs : Spaces) (x : List ℕ) (p : PrefixRows → List ℕ) (s t u : List ℕ) → t ≡ s ++ x → Adds a xs b p t u
     → Adds a xs b (λ rows. x ++ p rows) s u
 adds_before a b xs x p s t u is h = record {
   added = h.added;
@@ -131,7 +131,8 @@ adds_before a b xs x p s t u is h = record {
 }
 
 -- the same piece, otherwise said
-pub adds_as : (a b xs ys : Spaces) (p q : Rows → List ℕ) (s t : List ℕ) → xs ≡ ys → ((rows : Rows) → p rows ≡ q rows) → Adds a xs b p s t
+pub adds_as : (a b xs ys : Spaces) (p q : PrefixRows → List ℕ) (s t : List ℕ) → xs ≡ ys → ((rows : PrefixRows) → p rows ≡ q rows)
+    → Adds a xs b p s t
     → Adds a ys b q s t
 adds_as a b xs ys p q s t e f h = record {
   added = subst (λ l. AddsSpaces a l b) e h.added;
@@ -140,7 +141,8 @@ adds_as a b xs ys p q s t e f h = record {
 }
 
 -- one piece more
-pub pieces_next : {X : Type 0} (f : X → Spaces) (g : Rows → X → List ℕ) (xs : List X) (i : ℕ) (x : X) (a b c : Spaces) (s t u : List ℕ)
+pub pieces_next : {X : Type 0} (f : X → Spaces) (g : PrefixRows → X → List ℕ) (xs : List X) (i : ℕ) (x : X) (a b c : Spaces)
+    (s t u : List ℕ)
     → i < length xs → x ≡ get_or xs i x
     → Adds a (flat_map f (take i xs)) b (λ rows. flat_map (g rows) (take i xs)) s t → Adds b (f x) c (λ rows. g rows x) t u
     → Adds a (flat_map f (take (i + 1) xs)) c (λ rows. flat_map (g rows) (take (i + 1) xs)) s u
@@ -151,7 +153,7 @@ pieces_next f g xs i x a b c s t u l is h k =
     (adds_two a b c (flat_map f (take i xs)) (f x) (λ rows. flat_map (g rows) (take i xs)) (λ rows. g rows x) s t u h k)
 
 -- all pieces, each of one namespace
-pub pieces_all : {X : Type 0} (f : X → List ℕ) (g : Rows → X → List ℕ) (xs ys : List X) (i : ℕ) (a b : Spaces) (s t : List ℕ)
+pub pieces_all : {X : Type 0} (f : X → List ℕ) (g : PrefixRows → X → List ℕ) (xs ys : List X) (i : ℕ) (a b : Spaces) (s t : List ℕ)
     → length xs ≤ i → xs ≡ ys
     → Adds a (flat_map (λ x. f x ∷ []) (take i xs)) b (λ rows. flat_map (g rows) (take i xs)) s t
     → Adds a (map f ys) b (λ rows. flat_map (g rows) ys) s t
@@ -194,7 +196,7 @@ piece_attribute attribute a b s t u v w x p h q r z = record {
       (joined_twice u v x (codes "=\"") _ q (joined_twice v w x (value_bytes attribute.value) (codes "\"") r z)));
 }
 
-pub piece_content : (f : Child → Spaces) (g : Rows → Child → List ℕ) (children : List Child) (name : Name) (prefix : Option (List ℕ))
+pub piece_content : (f : Child → Spaces) (g : PrefixRows → Child → List ℕ) (children : List Child) (name : Name) (prefix : Option (List ℕ))
     (a b : Spaces) (s t u v w x : List ℕ) → length children ≢ 0
     → t ≡ s ++ codes ">" → Adds a (flat_map f children) b (λ rows. flat_map (g rows) children) t u → v ≡ u ++ codes "</"
     → ((final : Spaces) → AreFinal a final → prefix ≡ lookup (bytes_eq name.space) (name_prefixes final))
@@ -209,7 +211,8 @@ piece_content f g children name prefix a b s t u v w x some p h q e r z = record
       (r ∙ ap (λ o. v ++ after_prefix o name.local) (e final (final_before a b final h.extends fin))) z;
 }
 
-pub piece_no_content : (f : Child → Spaces) (g : Rows → Child → List ℕ) (children : List Child) (name : Name) (a : Spaces) (s t : List ℕ)
+pub piece_no_content : (f : Child → Spaces) (g : PrefixRows → Child → List ℕ) (children : List Child) (name : Name) (a : Spaces)
+    (s t : List ℕ)
     → children ≡ [] → t ≡ s ++ codes "/>"
     → Adds a (flat_map f children) a (λ rows. after_attributes_bytes (printed_name rows name) (map (g rows) children)) s t
 piece_no_content f g children name a s t none is =

@@ -20,8 +20,8 @@ use Rattle.std.proofs.lemmas.Simd.{map-map}
 use Rattle.ifmap_lemmas.specs.Lists.{concat_map}
 use Rattle.ifmap_lemmas.specs.Joined.{joined_twice}
 
-abbrev Rows : Type 0
-Rows = List (List ℕ × List ℕ)
+abbrev PrefixRows : Type 0
+PrefixRows = List (List ℕ × List ℕ)
 
 pub content_written : (g : Child → List ℕ) (children : List Child) (name a b c d e f : List ℕ) → length children ≢ 0 → b ≡ a ++ codes ">"
     → c ≡ b ++ flat_map g children
@@ -32,7 +32,7 @@ content_written g (child ∷ others) name a b c d e f some p q r s t =
     (joined_twice b c f (flat_map g (child ∷ others)) _ q (joined_twice c d f (codes "</") _ r (joined_twice d e f name (codes ">") s t)))
     ∙ ap (λ l. a ++ (codes ">" ++ (l ++ (codes "</" ++ (name ++ codes ">"))))) (sym (concat_map g (child ∷ others)))
 
-pub element_is : (prefixes : Rows) (e : Element) → element_bytes prefixes (arrange e)
+pub element_is : (prefixes : PrefixRows) (e : Element) → element_bytes prefixes (arrange e)
     ≡ element_of_parts prefixes [] e.name (sort_attributes e.attributes) (map (λ c. child_bytes prefixes (arrange_child c)) e.children)
 element_is prefixes e =
     ap (element_bytes prefixes) (arranged_is e)
@@ -40,10 +40,10 @@ element_is prefixes e =
     (record { name = e.name; attributes = sort_attributes e.attributes; children = map arrange_child e.children })
     ∙ ap (element_of_parts prefixes [] e.name (sort_attributes e.attributes)) (map-map (child_bytes prefixes) arrange_child e.children)
 
-abbrev bytes_declaring : Rows → Rows → Element → List ℕ
+abbrev bytes_declaring : PrefixRows → PrefixRows → Element → List ℕ
 bytes_declaring prefixes declared e = element_of_parts prefixes declared e.name e.attributes (map (child_bytes prefixes) e.children)
 
-root_is : (prefixes declared : Rows) (e : Element)
+root_is : (prefixes declared : PrefixRows) (e : Element)
     → bytes_declaring prefixes declared (arrange e) ≡ element_of_parts prefixes declared e.name (sort_attributes e.attributes)
     (map (λ c. child_bytes prefixes (arrange_child c)) e.children)
 root_is prefixes declared e =
@@ -95,7 +95,7 @@ declarations_more letter xs i x l is =
     (append-nil (declaration_bytes (get_or xs i x, letter ++ numeral (1 + length (take i xs))))
     ∙ (λ j. declaration_bytes (back j, letter ++ numeral (long j))))
 
-pub referred_attributes : (prefixes : Rows) (rs : List (Bor Attribute))
+pub referred_attributes : (prefixes : PrefixRows) (rs : List (Bor Attribute))
     → flat_map (λ (r : Bor Attribute). attribute_bytes prefixes r.now) rs ≡ flat_map (attribute_bytes prefixes)
     (map (λ (r : Bor Attribute). r.now) rs)
 referred_attributes prefixes [] = refl

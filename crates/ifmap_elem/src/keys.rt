@@ -34,14 +34,14 @@ impl<'a> Key<'a> {
         ensures { result ≡ space.now }
     {
         Key {
-            word: word_of(space),
+            word: word_of_space(space),
             space,
         }
     }
 }
 
 #[tactic(auto, unfolding(crate::specs::printer::Keys::space_word))]
-fn word_of(space: &[u8]) -> u64
+fn word_of_space(space: &[u8]) -> u64
     ensures { result ≡ space_word space.now }
 {
     let mut hasher = FoldHasher::default();

@@ -24,7 +24,7 @@ use Rattle.ifmap_elem.specs.Tokens.{TakesToken}
 use Rattle.ifmap_elem.specs.laws.FitLaws.{elements_of_child, elements_in, fit_parts, fit_arranged}
 use Rattle.ifmap_lemmas.specs.Members.{all_both, both_all}
 use Rattle.ifmap_elem.specs.laws.OneReading.{one_reading}
-use Rattle.ifmap_elem.specs.laws.NamespaceLaws.{Rows, Texts}
+use Rattle.ifmap_elem.specs.laws.NamespaceLaws.{PrefixRows, Texts}
 use Rattle.ifmap_elem.specs.laws.PrintedTags.{row_binding, Resolves, FitRow}
 use Rattle.ifmap_elem.specs.laws.PrintedScopes.{n_letter, f_letter, numbered_prefix_rows, with_numbered_prefixes, root_outermost, rows_outermost, all_resolved, are_declared, rows_fit, rows_are_bindings, prefixes_differ, both_differ}
 use Rattle.ifmap_elem.specs.laws.PrintedElements.{ElementTaken, tagged_taken, children_taken, fits_in, spaces_is, one_is_root, space_of_attribute}
@@ -69,15 +69,15 @@ fit_spaces = by_children HasNamespaces (λ e. IsFit e → AllByRecursion IsNames
 
 -- the root
 
-abbrev its_rows : Element → Texts → Rows
+abbrev its_rows : Element → Texts → PrefixRows
 its_rows e given = numbered_prefix_rows (byte "n") 1 (namespaces e) ++ numbered_prefix_rows (byte "f") 1 given
 
-rows_seam : (rows more : Rows) (scope : Scope) → map row_binding
+rows_seam : (rows more : PrefixRows) (scope : Scope) → map row_binding
     (rows ++ more) ++ scope ≡ map row_binding rows ++ (map row_binding more ++ scope)
 rows_seam [] more scope = refl
 rows_seam (row ∷ rows) more scope = ap (λ l. row_binding row ∷ l) (rows_seam rows more scope)
 
-bindings_both : (rows more : Rows) → AllByRecursion IsBinding (map row_binding rows) → AllByRecursion IsBinding (map row_binding more)
+bindings_both : (rows more : PrefixRows) → AllByRecursion IsBinding (map row_binding rows) → AllByRecursion IsBinding (map row_binding more)
     → AllByRecursion IsBinding (map row_binding (rows ++ more))
 bindings_both [] more f g = g
 bindings_both (row ∷ rows) more f g = (f.0, bindings_both rows more f.1 g)
@@ -86,7 +86,7 @@ root_taken : (e : Element) (given : Texts) → IsFit e → AllByRecursion IsDecl
     → ElementTaken root_scope (root_bytes (numbered_prefix_rows (byte "f") 1 given) e) e (declared_here (map row_binding (its_rows e
     given)))
 root_taken e given fit can =
-    let prefixes : Rows = name_prefixes (namespaces e) in
+    let prefixes : PrefixRows = name_prefixes (namespaces e) in
     let scope : Scope = map row_binding (its_rows e given) ++ root_scope in
     let parts = fit_parts e fit in
     let spaces : AllByRecursion IsDeclarable (namespaces e) = are_declared (spaces_of e) (fit_spaces e fit) in

@@ -137,14 +137,14 @@ prefix_rows-push letter n (x ∷ xs) s =
     ap (λ l. (x, letter ++ numeral n) ∷ l) (prefix_rows-push letter (n + 1) xs s
     ∙ ap (λ (k : ℕ). numbered_prefixes letter (n + 1) xs ++ (s, letter ++ numeral k) ∷ []) e)
 
-abbrev pub Rows : Type 0
-Rows = List (List ℕ × List ℕ)
+abbrev pub PrefixRows : Type 0
+PrefixRows = List (List ℕ × List ℕ)
 
-lookup-other : (p : List ℕ → Bool) (rows : Rows) (s label : List ℕ) → p s ≡ false → lookup p (rows ++ (s, label) ∷ []) ≡ lookup p rows
+lookup-other : (p : List ℕ → Bool) (rows : PrefixRows) (s label : List ℕ) → p s ≡ false → lookup p (rows ++ (s, label) ∷ []) ≡ lookup p rows
 lookup-other p [] s label e = rw e refl
 lookup-other p (r ∷ rows) s label e = ap (cond (p r.0) (Some r.1)) (lookup-other p rows s label e)
 
-lookup-new : (p : List ℕ → Bool) (rows : Rows) (s label : List ℕ) → p s ≡ true → lookup p rows ≡ None
+lookup-new : (p : List ℕ → Bool) (rows : PrefixRows) (s label : List ℕ) → p s ≡ true → lookup p rows ≡ None
     → lookup p (rows ++ (s, label) ∷ []) ≡ Some label
 lookup-new p [] s label e none = rw e refl
 lookup-new p (r ∷ rows) s label e none = elim (cases_Bool (p r.0)) [
@@ -172,12 +172,12 @@ one_row_more old new xs s label was now is none q =
     row false e = was q ∙ sym (lookup-other (bytes_eq q) (name_prefixes xs) s (codes "n" ++ numeral (1 + length xs)) (bytes_apart s q e))
 
 -- the same as code makes it, with a copy of the namespace as the key, and another in the list
-pub keyed : (old new : List ℕ → Option (List ℕ)) (xs ys : Texts) (s key other label : List ℕ)
+pub one_key_more : (old new : List ℕ → Option (List ℕ)) (xs ys : Texts) (s key other label : List ℕ)
     → ((q : List ℕ) → old q ≡ lookup (bytes_eq q) (name_prefixes xs))
     → ((q : List ℕ) → new q ≡ cond (is_eq (slice_cmp nat_cmp key q)) (Some label) (old q)) → key ≡ s → other ≡ s → ys ≡ xs ++ other ∷ []
     → label ≡ codes "n" ++ numeral (length xs + 1)
     → lookup (bytes_eq s) (name_prefixes xs) ≡ None → (q : List ℕ) → new q ≡ lookup (bytes_eq q) (name_prefixes ys)
-keyed old new xs ys s key other label was now k o more is none q =
+one_key_more old new xs ys s key other label was now k o more is none q =
     let e : length xs + 1 ≡ 1 + length xs = omega arith in
     one_row_more old new xs s label was (λ t. now t ∙ ap (λ x. cond (is_eq (slice_cmp nat_cmp x t)) (Some label) (old t)) k)
     (is ∙ ap (λ n. codes "n" ++ numeral n) e) none q

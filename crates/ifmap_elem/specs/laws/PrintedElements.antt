@@ -33,8 +33,8 @@ use Rattle.ifmap_elem.specs.Namespaces.{spaces_of, spaces_of_child, child_spaces
 use Rattle.ifmap_elem.specs.Canonical.{printed_name, declaration_bytes, attribute_bytes, after_attributes_bytes, element_of_parts, child_piece, element_piece, child_bytes, element_bytes}
 use Rattle.ifmap_lemmas.specs.Numbers.{is_other}
 use Rattle.ifmap_lemmas.specs.Members.{all_of_test, all_both}
-use Rattle.ifmap_elem.specs.laws.NamespaceLaws.{Rows}
-use Rattle.ifmap_elem.specs.laws.PrintedTags.{row_binding, tag_of, qualify_name, Resolves, FitsIn, FitRow, tag_taken, end_taken, text_taken, bindings_are, names_element}
+use Rattle.ifmap_elem.specs.laws.NamespaceLaws.{PrefixRows}
+use Rattle.ifmap_elem.specs.laws.PrintedTags.{row_binding, printed_tag, qualify_name, Resolves, FitsIn, FitRow, tag_taken, end_taken, text_taken, bindings_are, names_element}
 use Rattle.ifmap_elem.specs.laws.FitLaws.{out_text, elements_of_child, elements_in, fit_parts}
 use Rattle.ifmap_lemmas.specs.Lists.{concat_map}
 use Rattle.ifmap_lemmas.specs.Runs.{to_both}
@@ -127,7 +127,7 @@ none_below index (Inner e d ∷ items) f = (λ i. map (from_above index) (f.0 i)
 none_below index (Run text ∷ items) f = none_below (index + 1) items f.1
 
 -- the printed child is tokens that mean it
-pub record ChildTaken (prefixes : Rows) (scope : Scope) (c : Child) : Type 0 where
+pub record ChildTaken (prefixes : PrefixRows) (scope : Scope) (c : Child) : Type 0 where
   pub pieces : Pieces
   pub item : ContentItem
   pub lexed : (rest : List ℕ) → MayFollow item rest → To TakesToken (child_bytes prefixes c ++ rest) (tokens_of pieces) rest
@@ -137,7 +137,7 @@ pub record ChildTaken (prefixes : Rows) (scope : Scope) (c : Child) : Type 0 whe
   pub begins : Begins item (child_bytes prefixes c)
   pub bare : IsBare item
 
-module _ (prefixes : Rows) (scope : Scope) where
+module _ (prefixes : PrefixRows) (scope : Scope) where
   abbrev items_of : (cs : List Child) → Each (ChildTaken prefixes scope) cs → List ContentItem
   items_of [] each = []
   items_of (c ∷ cs) each = each.0.item ∷ items_of cs each.1
@@ -246,7 +246,7 @@ content_seam : (f n rest : List ℕ) → (codes ">" ++ (f ++ (codes "</" ++ (n +
     "</" ++ (n ++ (codes ">" ++ rest))))
 content_seam f n rest = simp append_assoc
 
-module _ (prefixes declared : Rows) (outer : Scope) (e : Element) (fit : IsFitAlone e) (rows : AllByRecursion FitRow declared)
+module _ (prefixes declared : PrefixRows) (outer : Scope) (e : Element) (fit : IsFitAlone e) (rows : AllByRecursion FitRow declared)
     (binds : AllByRecursion IsBinding (map row_binding declared))
     (once : AllDiffer (map (λ b. b.prefix) (map row_binding declared)))
     (named : Resolves prefixes (map row_binding declared ++ outer) e.name.space)
@@ -255,7 +255,7 @@ module _ (prefixes declared : Rows) (outer : Scope) (e : Element) (fit : IsFitAl
   within_it = map row_binding declared ++ outer
 
   abbrev its_tag : Tag
-  its_tag = tag_of prefixes declared e.name e.attributes
+  its_tag = printed_tag prefixes declared e.name e.attributes
 
   abbrev its_start : List ℕ → List ℕ
   its_start end = codes "<" ++ (printed_name prefixes e.name ++ (flat_map declaration_bytes declared ++ (flat_map
@@ -352,7 +352,7 @@ spaces_is e =
     ∙ ap (λ l. e.name.space ∷ (map space_of_attribute e.attributes ++ l))
     (flat_map-map (λ (s : List (List ℕ)). s) spaces_of_child e.children)
 
-module _ (prefixes : Rows) (scope : Scope) where
+module _ (prefixes : PrefixRows) (scope : Scope) where
   abbrev TakesChild : Child → Type 0
   TakesChild c = AllByRecursion IsFitAlone (elements_of_child c) → HasCharacters (out-Child c)
       → AllByRecursion (Resolves prefixes scope) (spaces_of_child c) → ChildTaken prefixes scope c

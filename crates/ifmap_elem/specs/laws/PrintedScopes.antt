@@ -23,7 +23,7 @@ use Rattle.ifmap_elem.specs.Fit.{IsNamespace, IsDeclarable}
 use Rattle.ifmap_elem.specs.Canonical.{after_prefix}
 use Rattle.ifmap_elem.specs.Namespaces.{once_each, is_declared, declared_among, numbered_prefixes, name_prefixes}
 use Rattle.ifmap_elem.specs.laws.NameBytes.{part_is_some}
-use Rattle.ifmap_elem.specs.laws.NamespaceLaws.{among, among-others, is_some-prefix_rows, Rows, Texts}
+use Rattle.ifmap_elem.specs.laws.NamespaceLaws.{among, among-others, is_some-prefix_rows, PrefixRows, Texts}
 use Rattle.ifmap_lemmas.specs.Texts.{eq_tells, eq_itself, is_ascii}
 use Rattle.ifmap_lemmas.specs.Members.{all_of_test}
 use Rattle.ifmap_lemmas.specs.Absent.{none_where_not_some}
@@ -79,7 +79,7 @@ label_some letter n e = cc
 
 -- what the rows bind
 
-abbrev pub numbered_prefix_rows : ℕ → ℕ → Texts → Rows
+abbrev pub numbered_prefix_rows : ℕ → ℕ → Texts → PrefixRows
 numbered_prefix_rows letter n xs = numbered_prefixes (letter ∷ []) n xs
 
 abbrev pub with_numbered_prefixes : ℕ → ℕ → Texts → Scope → Scope
@@ -126,7 +126,7 @@ pub past_rows : (letter n : ℕ) (xs : Texts) (more : Scope) (p : List ℕ) → 
 past_rows letter n [] more p other = refl
 past_rows letter n (x ∷ xs) more p other = rw (other_bytes_differ (label letter n) p (other n)) (past_rows letter (n + 1) xs more p other)
 
-resolves_none : (prefixes : Rows) (scope : Scope) (s : List ℕ) → lookup (bytes_eq s) prefixes ≡ None → s ≡ []
+resolves_none : (prefixes : PrefixRows) (scope : Scope) (s : List ℕ) → lookup (bytes_eq s) prefixes ≡ None → s ≡ []
     → prefix_space scope [] ≡ Some []
     → Resolves prefixes scope s
 resolves_none prefixes scope s found is default = record {
@@ -137,7 +137,7 @@ resolves_none prefixes scope s found is default = record {
   none = λ e. is;
 }
 
-resolves_some : (prefixes : Rows) (scope : Scope) (s p : List ℕ) → lookup (bytes_eq s) prefixes ≡ Some p → IsNamePart p
+resolves_some : (prefixes : PrefixRows) (scope : Scope) (s p : List ℕ) → lookup (bytes_eq s) prefixes ≡ Some p → IsNamePart p
     → p ≢ codes "xmlns" → prefix_space scope p ≡ Some s → Resolves prefixes scope s
 resolves_some prefixes scope s p found part other binds = record {
   printed = λ local. ap (λ o. after_prefix o local) found ∙ colon p local (part_is_some p part)
@@ -201,7 +201,7 @@ rows_outermost letter n xs more is outer = record {
 }
 
 module _ (all : Texts) (more : Scope) (outer : IsOutermost more) where
-  abbrev its_prefixes : Rows
+  abbrev its_prefixes : PrefixRows
   its_prefixes = name_prefixes (declared_among all)
 
   abbrev its_scope : Scope
@@ -318,7 +318,7 @@ others_differ : (letter other m n : ℕ) (ys : Texts) → letter ≢ other
 others_differ letter other m n [] apart = tt
 others_differ letter other m n (y ∷ ys) apart = (λ e. let h : letter ≡ other = cc in apart h, others_differ letter other m (n + 1) ys apart)
 
-all_in_both : (P : List ℕ → Type 0) (rows more : Rows) → AllByRecursion P (map (λ b. b.prefix) (map row_binding rows))
+all_in_both : (P : List ℕ → Type 0) (rows more : PrefixRows) → AllByRecursion P (map (λ b. b.prefix) (map row_binding rows))
     → AllByRecursion P (map (λ b. b.prefix) (map row_binding more))
     → AllByRecursion P (map (λ b. b.prefix) (map row_binding (rows ++ more)))
 all_in_both P [] more f g = g

@@ -1,5 +1,5 @@
 -- Printed names, attributes, declarations, tags and texts are taken as such, and printed tags are allowed.
--- 1. The tag that an element is printed as: its name and attributes with prefixes, after its declarations (`tag_of`).
+-- 1. The tag that an element is printed as: its name and attributes with prefixes, after its declarations (`printed_tag`).
 -- 2. A namespace whose prefix is bound to it (`Resolves`) gives qualified names; so each attribute and each declaration is taken
 --    as its assignment, and all of them in turn (`all_taken`).
 -- 3. So start tags, end tags and texts are taken as what was printed (`tag_taken`, `end_taken`, `text_taken`).
@@ -13,7 +13,7 @@ use Rattle.std.specs.Str.{bytes_eq, byte}
 use Rattle.std.proofs.lemmas.List.{append-nil}
 use Rattle.std.proofs.lemmas.List.Elements.{filter-append, filter_map-append}
 use Rattle.ifmap_lemmas.specs.Items.{To}
-use Rattle.ifmap_elem.specs.laws.NamespaceLaws.{Rows}
+use Rattle.ifmap_elem.specs.laws.NamespaceLaws.{PrefixRows}
 use Rattle.ifmap_elem.specs.declared.elements.Name.{Name}
 use Rattle.ifmap_elem.specs.declared.elements.Attribute.{Attribute}
 use Rattle.ifmap_elem.specs.declared.tokens.Assignment.{Assignment}
@@ -37,14 +37,14 @@ abbrev pub prefix_or : Option (List ℕ) → List ℕ
 prefix_or None = []
 prefix_or (Some prefix) = prefix
 
-abbrev pub prefix_of : Rows → List ℕ → List ℕ
+abbrev pub prefix_of : PrefixRows → List ℕ → List ℕ
 prefix_of prefixes space = prefix_or (lookup (bytes_eq space) prefixes)
 
 -- the name as it is written
-abbrev pub qualify_name : Rows → Name → Qualified
+abbrev pub qualify_name : PrefixRows → Name → Qualified
 qualify_name prefixes name = record { prefix = prefix_of prefixes name.space; local = name.local }
 
-abbrev pub attribute_assignment : Rows → Attribute → Assignment
+abbrev pub attribute_assignment : PrefixRows → Attribute → Assignment
 attribute_assignment prefixes a = record { name = qualify_name prefixes a.name; value = a.value }
 
 abbrev pub declaration_assignment : List ℕ × List ℕ → Assignment
@@ -53,8 +53,8 @@ declaration_assignment row = record { name = record { prefix = codes "xmlns"; lo
 abbrev pub row_binding : List ℕ × List ℕ → Binding
 row_binding row = record { prefix = row.1; space = row.0 }
 
-abbrev pub tag_of : Rows → Rows → Name → List Attribute → Tag
-tag_of prefixes declared name attributes =
+abbrev pub printed_tag : PrefixRows → PrefixRows → Name → List Attribute → Tag
+printed_tag prefixes declared name attributes =
     record {
       name = qualify_name prefixes name;
       assignments = map declaration_assignment declared ++ map
@@ -62,7 +62,7 @@ tag_of prefixes declared name attributes =
     }
 
 -- a namespace is written by a prefix that is bound to it
-pub record Resolves (prefixes : Rows) (scope : Scope) (space : List ℕ) : Type 0 where
+pub record Resolves (prefixes : PrefixRows) (scope : Scope) (space : List ℕ) : Type 0 where
   pub printed : (local : List ℕ) → after_prefix (lookup (bytes_eq space) prefixes) local ≡ with_prefix (prefix_of prefixes space) local
   pub is_prefix : (prefix_of prefixes space ≡ []) ⊎ IsNamePart (prefix_of prefixes space)
   pub no_xmlns : prefix_of prefixes space ≢ codes "xmlns"
@@ -70,7 +70,7 @@ pub record Resolves (prefixes : Rows) (scope : Scope) (space : List ℕ) : Type 
   pub none : prefix_of prefixes space ≡ [] → space ≡ []
 
 -- an attribute of a document, whose namespace is written by a prefix
-pub record FitsIn (prefixes : Rows) (scope : Scope) (a : Attribute) : Type 0 where
+pub record FitsIn (prefixes : PrefixRows) (scope : Scope) (a : Attribute) : Type 0 where
   pub fit : IsFitAttribute a
   pub resolved : Resolves prefixes scope a.name.space
 
@@ -119,11 +119,11 @@ assignment_taken q value rest i f = record {
   means = value_means value;
 }
 
-is_qualified : (prefixes : Rows) (scope : Scope) (name : Name) → IsFitName name → Resolves prefixes scope name.space
+is_qualified : (prefixes : PrefixRows) (scope : Scope) (name : Name) → IsFitName name → Resolves prefixes scope name.space
     → IsQualified (qualify_name prefixes name)
 is_qualified prefixes scope name f r = record { prefix_is = r.is_prefix; local_is = f.local }
 
-attribute_taken : (prefixes : Rows) (scope : Scope) (a : Attribute) (rest : List ℕ) → FitsIn prefixes scope a
+attribute_taken : (prefixes : PrefixRows) (scope : Scope) (a : Attribute) (rest : List ℕ) → FitsIn prefixes scope a
     → TakesAssignment (attribute_bytes prefixes a ++ rest) (attribute_assignment prefixes a) rest
 attribute_taken prefixes scope a rest f =
     subst (λ (n : List ℕ). TakesAssignment ((codes " " ++ (n ++ (codes "=\"" ++ (value_bytes a.value ++ codes "\"")))) ++ rest)
@@ -148,11 +148,11 @@ all_taken write means P each (x ∷ xs) rest f = (
   all_taken write means P each xs rest f.1,
 )
 
-pub tag_taken : (prefixes declared : Rows) (scope : Scope) (name : Name) (attributes : List Attribute) (end : List ℕ) → IsFitName name
+pub tag_taken : (prefixes declared : PrefixRows) (scope : Scope) (name : Name) (attributes : List Attribute) (end : List ℕ) → IsFitName name
     → Resolves prefixes scope name.space
     → AllByRecursion FitRow declared → AllByRecursion (FitsIn prefixes scope) attributes
     → TakesTag (codes "<" ++ (printed_name prefixes name ++ (flat_map declaration_bytes declared ++ (flat_map
-    (attribute_bytes prefixes) attributes ++ end)))) (tag_of prefixes declared name attributes) end
+    (attribute_bytes prefixes) attributes ++ end)))) (printed_tag prefixes declared name attributes) end
 tag_taken prefixes declared scope name attributes end f r rows fits = record {
   after = flat_map declaration_bytes declared ++ (flat_map (attribute_bytes prefixes) attributes ++ end);
   white = [];
@@ -170,7 +170,7 @@ tag_taken prefixes declared scope name attributes end f r rows fits = record {
   is_white = tt;
 }
 
-pub end_taken : (prefixes : Rows) (scope : Scope) (name : Name) (rest : List ℕ) → IsFitName name → Resolves prefixes scope name.space
+pub end_taken : (prefixes : PrefixRows) (scope : Scope) (name : Name) (rest : List ℕ) → IsFitName name → Resolves prefixes scope name.space
     → TakesEnd (codes "</" ++ (printed_name prefixes name ++ (codes ">" ++ rest))) (qualify_name prefixes name) rest
 end_taken prefixes scope name rest f r = record {
   white = [];
@@ -195,7 +195,7 @@ text_taken text rest some f ends = record {
 
 -- what a printed tag binds
 
-binds_nothing : (prefixes : Rows) (scope : Scope) (a : Attribute) → FitsIn prefixes scope a
+binds_nothing : (prefixes : PrefixRows) (scope : Scope) (a : Attribute) → FitsIn prefixes scope a
     → binding_of (attribute_assignment prefixes a) ≡ None
 binds_nothing prefixes scope a f =
     let no_prefix : bytes_eq (prefix_of prefixes a.name.space) (codes "xmlns") ≡ false = other_bytes_differ _ _ f.resolved.no_xmlns in
@@ -209,35 +209,35 @@ binds_nothing prefixes scope a f =
         (let s : a.name.space ≡ [] = none refl in λ i. record { space = s i; local = e i }))
     unprefixed (b ∷ bs) none = refl
 
-declared_bindings : (rows : Rows) → filter_map binding_of (map declaration_assignment rows) ≡ map row_binding rows
+declared_bindings : (rows : PrefixRows) → filter_map binding_of (map declaration_assignment rows) ≡ map row_binding rows
 declared_bindings [] = refl
 declared_bindings (row ∷ rows) = ap (λ l. row_binding row ∷ l) (declared_bindings rows)
 
-no_bindings : (prefixes : Rows) (scope : Scope) (attributes : List Attribute) → AllByRecursion (FitsIn prefixes scope) attributes
+no_bindings : (prefixes : PrefixRows) (scope : Scope) (attributes : List Attribute) → AllByRecursion (FitsIn prefixes scope) attributes
     → filter_map binding_of (map (attribute_assignment prefixes) attributes) ≡ []
 no_bindings prefixes scope [] f = refl
 no_bindings prefixes scope (a ∷ attributes) f = rw (binds_nothing prefixes scope a f.0) (no_bindings prefixes scope attributes f.1)
 
-declared_plain : (rows : Rows) → filter (λ a. is_none (binding_of a)) (map declaration_assignment rows) ≡ []
+declared_plain : (rows : PrefixRows) → filter (λ a. is_none (binding_of a)) (map declaration_assignment rows) ≡ []
 declared_plain [] = refl
 declared_plain (row ∷ rows) = declared_plain rows
 
-all_plain : (prefixes : Rows) (scope : Scope) (attributes : List Attribute) → AllByRecursion (FitsIn prefixes scope) attributes
+all_plain : (prefixes : PrefixRows) (scope : Scope) (attributes : List Attribute) → AllByRecursion (FitsIn prefixes scope) attributes
     → filter (λ a. is_none (binding_of a)) (map (attribute_assignment prefixes) attributes) ≡ map (attribute_assignment prefixes) attributes
 all_plain prefixes scope [] f = refl
 all_plain prefixes scope (a ∷ attributes) f =
     rw (binds_nothing prefixes scope a f.0) (ap (λ l. attribute_assignment prefixes a ∷ l) (all_plain prefixes scope attributes f.1))
 
-pub bindings_are : (prefixes declared : Rows) (scope : Scope) (name : Name) (attributes : List Attribute)
+pub bindings_are : (prefixes declared : PrefixRows) (scope : Scope) (name : Name) (attributes : List Attribute)
     → AllByRecursion (FitsIn prefixes scope) attributes
-    → bindings (tag_of prefixes declared name attributes) ≡ map row_binding declared
+    → bindings (printed_tag prefixes declared name attributes) ≡ map row_binding declared
 bindings_are prefixes declared scope name attributes f =
     filter_map-append binding_of (map declaration_assignment declared) (map (attribute_assignment prefixes) attributes)
     ∙ (λ i. declared_bindings declared i ++ no_bindings prefixes scope attributes f i) ∙ append-nil (map row_binding declared)
 
-plain_are : (prefixes declared : Rows) (scope : Scope) (name : Name) (attributes : List Attribute)
+plain_are : (prefixes declared : PrefixRows) (scope : Scope) (name : Name) (attributes : List Attribute)
     → AllByRecursion (FitsIn prefixes scope) attributes
-    → plain_assignments (tag_of prefixes declared name attributes) ≡ map (attribute_assignment prefixes) attributes
+    → plain_assignments (printed_tag prefixes declared name attributes) ≡ map (attribute_assignment prefixes) attributes
 plain_are prefixes declared scope name attributes f =
     filter-append (λ a. is_none (binding_of a)) (map declaration_assignment declared) (map (attribute_assignment prefixes) attributes)
     ∙ (λ i. declared_plain declared i ++ all_plain prefixes scope attributes f i)
@@ -246,7 +246,7 @@ space_of_prefix : (scope : Scope) (p s : List ℕ) → prefix_space scope p ≡ 
 space_of_prefix scope [] s e none = ap Some (sym (none refl))
 space_of_prefix scope (b ∷ bs) s e none = e
 
-are_attributes : (prefixes : Rows) (scope : Scope) (attributes : List Attribute) → AllByRecursion (FitsIn prefixes scope) attributes
+are_attributes : (prefixes : PrefixRows) (scope : Scope) (attributes : List Attribute) → AllByRecursion (FitsIn prefixes scope) attributes
     → AreAttributes scope (map (attribute_assignment prefixes) attributes) attributes
 are_attributes prefixes scope [] f = tt
 are_attributes prefixes scope (a ∷ attributes) f = (
@@ -258,23 +258,23 @@ are_attributes prefixes scope (a ∷ attributes) f = (
   are_attributes prefixes scope attributes f.1,
 )
 
-pub names_element : (prefixes declared : Rows) (outer : Scope) (name : Name) (attributes : List Attribute)
+pub names_element : (prefixes declared : PrefixRows) (outer : Scope) (name : Name) (attributes : List Attribute)
     → AllByRecursion IsBinding (map row_binding declared)
     → AllDiffer (map (λ b. b.prefix) (map row_binding declared)) → Resolves prefixes (map row_binding declared ++ outer) name.space
     → AllByRecursion (FitsIn prefixes (map row_binding declared ++ outer)) attributes → AllDiffer (map (λ t. t.name) attributes)
-    → NamesElement outer (tag_of prefixes declared name attributes) name attributes
+    → NamesElement outer (printed_tag prefixes declared name attributes) name attributes
 names_element prefixes declared outer name attributes binds once r f other_bytes_differ =
     let scope : Scope = map row_binding declared ++ outer in
-    let bs : bindings (tag_of prefixes declared name attributes) ≡ map row_binding declared = bindings_are prefixes declared scope name
+    let bs : bindings (printed_tag prefixes declared name attributes) ≡ map row_binding declared = bindings_are prefixes declared scope name
     attributes f in
-    let within : scope_within outer (tag_of prefixes declared name attributes) ≡ scope = ap (λ l. l ++ outer) bs in
+    let within : scope_within outer (printed_tag prefixes declared name attributes) ≡ scope = ap (λ l. l ++ outer) bs in
     record {
       binds = subst (AllByRecursion IsBinding) (sym bs) binds;
       binds_once = subst (λ (l : List Binding). AllDiffer (map (λ b. b.prefix) l)) (sym bs) once;
       space_is = ap (λ (s : Scope). prefix_space s (prefix_of prefixes name.space)) within ∙ r.bound_to;
       local_is = refl;
       attributes_are =
-          subst (λ (s : Scope). AreAttributes s (plain_assignments (tag_of prefixes declared name attributes)) attributes) (sym within)
+          subst (λ (s : Scope). AreAttributes s (plain_assignments (printed_tag prefixes declared name attributes)) attributes) (sym within)
           (subst (λ (l : List Assignment). AreAttributes scope l attributes) (sym (plain_are prefixes declared scope name attributes f))
           (are_attributes prefixes scope attributes f));
       names_differ = other_bytes_differ;

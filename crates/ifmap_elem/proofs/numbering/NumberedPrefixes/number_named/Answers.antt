@@ -7,7 +7,7 @@ use Rattle.std.specs.Str.{bytes_eq}
 use Rattle.ifmap_elem.specs.Namespaces.{name_prefixes, AddsSpaces}
 use Rattle.ifmap_elem.specs.printer.Keys.{key_order}
 use Rattle.ifmap_elem.specs.laws.NamespaceLaws.{adds_prefixed, adds_unprefixed}
-use Rattle.ifmap_elem.proofs.KeyLaws.{IsPlaced, bytes_of, placed, puts_own}
+use Rattle.ifmap_elem.proofs.KeyLaws.{IsPlaced, bytes_of, one_place_more, puts_own}
 use Rattle.ifmap_elem.proofs.numbering.NumberedPrefixes.number_named.Goals as goal
 
 pub returns-in-Some-clause-added : goal.returns-in-Some-clause-added
@@ -23,7 +23,7 @@ put_in : (c : goal.After-result-2-1)
     → IsPlaced (get key_order c.label_of.new.labels) c.args.self.now (bytes_of c.push_reserved.new.self.items) c.args.space.now
     c.copy.result
 put_in c =
-    placed (get key_order c.self.inside.labels) (get key_order c.label_of.new.labels) c.args.self.now c.self.inside.order.items
+    one_place_more (get key_order c.self.inside.labels) (get key_order c.label_of.new.labels) c.args.self.now c.self.inside.order.items
     c.reserve.new.self.items c.push_reserved.new.self.items c.args.space c.new-key.result c.copy.result c.in_ok-prefix.field-0 c.len.result
     c.requires.some c.self.view_is c.self.invariant.0 c.self.invariant.1 (c.new-key.ensures
     ∙ c.as_bytes-bytes.ensures) c.in_ok-prefix.ensures.found c.in_default.not-Some
