@@ -32,12 +32,12 @@ module _ {M E : Type 0} (next : M → E → M) (weight : E → ℕ) where
         places = omega arith;
       }
 
-  pub settled : (m base base' : M) (from bytes limit heaviest w : ℕ) (x : ℕ × E) (xs ys : List (ℕ × E))
+  pub settle_keeps_balance : (m base base' : M) (from bytes limit heaviest w : ℕ) (x : ℕ × E) (xs ys : List (ℕ × E))
       → 0 < length xs → x ≡ slice_index_or xs 0 x → ys ≡ drop 1 xs → base' ≡ next base x.1 → w ≡ weight x.1
       → IsBalanced next weight m (record { from = from; base = base; seen = xs }) bytes limit heaviest → limit < bytes + heaviest
       → IsBalanced next weight m (record { from = from + 1; base = base'; seen = ys }) (bytes - w) limit heaviest
-  settled m base base' from bytes limit heaviest w x [] ys some first rest stepped is b heavy = absurd (omega arith)
-  settled m base base' from bytes limit heaviest w x (z ∷ zs) ys some first rest stepped is b heavy =
+  settle_keeps_balance m base base' from bytes limit heaviest w x [] ys some first rest stepped is b heavy = absurd (omega arith)
+  settle_keeps_balance m base base' from bytes limit heaviest w x (z ∷ zs) ys some first rest stepped is b heavy =
       rw (rest, stepped, is, first) (settled_at m base from bytes limit heaviest z zs b heavy)
 
   pub one_end : (from : ℕ) (x : ℕ × E) (xs ys : List (ℕ × E)) → 0 < length xs → ys ≡ drop 1 xs → from + 1 + length ys ≡ from + length xs
@@ -58,11 +58,11 @@ module _ {M E : Type 0} (next : M → E → M) (weight : E → ℕ) where
         rest = λ _. ([], rw one (sym (append-nil zs)));
       })
 
-  pub written : (m m' base : M) (from bytes limit heaviest w p : ℕ) (e : E) (xs : List (ℕ × E))
+  pub write_keeps_balance : (m m' base : M) (from bytes limit heaviest w p : ℕ) (e : E) (xs : List (ℕ × E))
       → m' ≡ next m e → w ≡ weight e → w ≤ heaviest → bytes + w ≤ limit → from + length xs < 2 ^ 64 - 1
       → IsBalanced next weight m (record { from = from; base = base; seen = xs }) bytes limit heaviest
       → IsBalanced next weight m' (record { from = from; base = base; seen = xs ++ (p, e) ∷ [] }) (bytes + w) limit heaviest
-  written m m' base from bytes limit heaviest w p e xs stepped is light fits free b =
+  write_keeps_balance m m' base from bytes limit heaviest w p e xs stepped is light fits free b =
       let full = b.full in let len = length-append xs ((p, e) ∷ []) in
       let one : sum_by (λ (u : ℕ × E). weight u.1) ((p, e) ∷ []) ≡ weight e = sum_by-cons (λ (u : ℕ × E). weight u.1) (p, e) []
       ∙ omega arith in

@@ -7,7 +7,7 @@
 --    (`said_by`).
 -- 4. The entries are those of which the answer tells (`grew_as_told`), so each answer is one that a
 --    pass may give (`answers_by`).
--- 5. All of it together is `turned`.
+-- 5. All of it together is `turn_keeps_promise`.
 use Rattle.std.proofs.Common.{◌≡◌, ℕ, ◌+◌, ◌-◌, ◌^◌, ◌<◌, ◌≤◌, List, [], ◌∷◌, ◌++◌, length, take, drop, map, Bool, true, false, refl, sym, ap, subst, ◌∙◌, inl, inr, arith, append-nil, length-append, length-drop, take-add}
 use Rattle.std.proofs.lemmas.List.{nil_from_length, take-append-drop}
 use Rattle.std.proofs.Math.Seq.{drop-append_seam, drop-length}
@@ -262,9 +262,9 @@ module _ {M E R : Type 0} (next : M → E → M) (weight : E → ℕ) (holds_on 
             silent_by g,
           )
 
-      pub turned : (number : ℕ) (event : E) (answer : Asked E R) → TurnEnsures b b' number event answer
+      pub turn_keeps_promise : (number : ℕ) (event : E) (answer : Asked E R) → TurnEnsures b b' number event answer
           → Turned next weight holds_on reply v h b' number event answer
-      turned number event answer u =
+      turn_keeps_promise number event answer u =
           let g = grew_as_told number event answer u in
           let few = few_told number event answer in
           record {

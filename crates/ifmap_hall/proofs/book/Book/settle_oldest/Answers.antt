@@ -1,5 +1,5 @@
 use Rattle.std.proofs.Common.{◌+◌, ◌-◌, refl, arith}
-use Rattle.ifmap_hall.proofs.Settling.{settled, one_carries, one_end, settles_none, one_had_to_go}
+use Rattle.ifmap_hall.proofs.Settling.{settle_keeps_balance, one_carries, one_end, settles_none, one_had_to_go}
 use Rattle.ifmap_hall.proofs.book.Book.settle_oldest.Goals as goal
 
 pub returns-clause-settles : goal.returns-clause-settles
@@ -7,7 +7,7 @@ returns-clause-settles g c =
     let b = c.args.self.now in
     let rest = c.pop_front-gone.new.self.items in
     record {
-      book = settled g.M.Machine.next g.M.Machine.weight_of b.machine b.base c.step.new.self b.from b.bytes b.limit b.heaviest
+      book = settle_keeps_balance g.M.Machine.next g.M.Machine.weight_of b.machine b.base c.step.new.self b.from b.bytes b.limit b.heaviest
           c.weight-weight.result c.in-Some.oldest.now
           b.journal.items rest c.requires.some c.in-Some.ensures.lookup c.pop_front-gone.ensures.rest c.in_ok-_reply.ensures.0
           c.weight-weight.ensures c.requires.book c.requires.heavy;
