@@ -93,12 +93,13 @@ pair_fails app name words error is kinds other x y pair =
 
 -- ---- what a getter tells
 
-pub missing : (f : Found) (id x : Text) (o : Option (Bor Text)) → option_map (λ s. s.now) o ≡ first_value f id → o ≡ None
+pub no_value_is_none : (f : Found) (id x : Text) (o : Option (Bor Text)) → option_map (λ s. s.now) o ≡ first_value f id → o ≡ None
     → first_of id (rows_of f) ≡ Some x → ⊥
-missing f id x o got none first =
+no_value_is_none f id x o got none first =
     none≢some (sym (ap (option_map (λ s. s.now)) none) ∙ got ∙ first_value-rows f id ∙ first)
 
-pub present : (f : Found) (id x : Text) (o : Option (Bor Text)) (s : Bor Text) → option_map (λ s. s.now) o ≡ first_value f id → o ≡ Some s
+pub value_is_found : (f : Found) (id x : Text) (o : Option (Bor Text)) (s : Bor Text) → option_map (λ s. s.now) o ≡ first_value f id
+    → o ≡ Some s
     → first_of id (rows_of f) ≡ Some x → s.now ≡ x
-present f id x o s got some first =
+value_is_found f id x o s got some first =
     ap (λ (t : Option Text). unwrap_or t x) (sym (ap (option_map (λ s. s.now)) some) ∙ got ∙ first_value-rows f id ∙ first)
