@@ -31,8 +31,8 @@ use Rattle.ifmap_elem.specs.Building.{is_name}
 
 -- ---- names
 
-pub named : (n m : Name) → is_name n m ≡ true → n ≡ m
-named n m e =
+pub is_name_tells : (n m : Name) → is_name n m ≡ true → n ≡ m
+is_name_tells n m e =
     let parts = and_parts (bytes_eq n.space m.space) (bytes_eq n.local m.local) e in
     let spaces = eq_tells n.space m.space parts.0 in
     let locals = eq_tells n.local m.local parts.1 in
@@ -88,7 +88,7 @@ element_there (Child-F.Text t) h = let wrong : false ≡ true = h in cc
 
 pub element_named : (local : List ℕ) (part : Part) → is_part_named local part ≡ true
     → (e : Element) × (part ≡ part_of e) × (e.name ≡ envelope_name local)
-element_named local (Child-F.Element e) h = (e, refl, named e.name (envelope_name local) h)
+element_named local (Child-F.Element e) h = (e, refl, is_name_tells e.name (envelope_name local) h)
 element_named local (Child-F.Text t) h = let wrong : false ≡ true = h in cc
 
 module _ (parts : List Part) (index : ℕ) (is : index ≡ blank_front parts) where
@@ -156,8 +156,8 @@ module _ (parts : List Part) (first : ℕ) (is : first ≡ blank_front parts) wh
     pub parts_are : parts ≡ take first parts ++ (part_of header ∷ rest)
     pub named : header.name ≡ envelope_name (codes "Header")
 
-  pub headed : is_first is_header (drop first parts) ≡ true → (header : Element) × (rest : List Part) × IsHeaded header rest
-  headed h = from (drop first parts) refl h
+  pub header_stands_first : is_first is_header (drop first parts) ≡ true → (header : Element) × (rest : List Part) × IsHeaded header rest
+  header_stands_first h = from (drop first parts) refl h
     where
       from : (left : List Part) → drop first parts ≡ left → is_first is_header left ≡ true
           → (header : Element) × (rest : List Part) × IsHeaded header rest

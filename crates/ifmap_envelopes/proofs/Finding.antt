@@ -8,7 +8,7 @@ use Rattle.ifmap_forms.specs.Tables.{Part, element_parts}
 use Rattle.ifmap_elem.specs.Fit.{is_element}
 use Rattle.ifmap_envelopes.specs.Envelopes.{IsOnlyElement, IsBodyAt, IsEnvelope, blank_front, envelope_name, is_first, is_last_part}
 use Rattle.ifmap_envelopes.proofs.Alone.{one_body_at}
-use Rattle.ifmap_envelopes.proofs.EnvelopeLaws.{after_header, alone_there, body_after, body_first, headed, named, no_body_after, no_body_first, none_alone, is_body, is_header}
+use Rattle.ifmap_envelopes.proofs.EnvelopeLaws.{after_header, alone_there, body_after, body_first, header_stands_first, is_name_tells, no_body_after, no_body_first, none_alone, is_body, is_header}
 use Rattle.ifmap_elem.specs.laws.DecidedNames.{name_or_not}
 
 module _ (parts : List Part) where
@@ -34,7 +34,7 @@ module _ (parts : List Part) where
   later_or_none : is_last_part is_body (drop first parts) ≡ false → is_first is_header (drop first parts) ≡ true → Decided HasBody
   later_or_none f g = elim (cases_Bool (is_last_part is_body (drop later parts))) [
     | inl h ↦
-        let o = headed parts first refl g in
+        let o = header_stands_first parts first refl g in
         let at = ap (λ (ps : List Part). first + 1 + blank_front ps) (after_header parts first refl o.0 o.1 o.2) in
         let b = body_after parts first refl o.0 o.1 o.2 later at h in
         inl (later, b.0, b.1)

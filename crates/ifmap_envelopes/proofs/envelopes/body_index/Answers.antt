@@ -1,7 +1,7 @@
 use Rattle.std.proofs.Common.{◌≡◌, ◌+◌, ◌∙◌, ap, codes, false, sym, true}
 use Rattle.ifmap_forms.specs.Tables.{parts_in}
 use Rattle.ifmap_envelopes.specs.Envelopes.{blank_front, is_first, is_last_part, is_part_named}
-use Rattle.ifmap_envelopes.proofs.EnvelopeLaws.{after_header, body_after, body_first, headed, no_body_after, no_body_first, parts_from}
+use Rattle.ifmap_envelopes.proofs.EnvelopeLaws.{after_header, body_after, body_first, header_stands_first, no_body_after, no_body_first, parts_from}
 use Rattle.ifmap_envelopes.proofs.envelopes.body_index.Goals as goal
 
 pub returns-then-is_last_body-clause-found : goal.returns-then-is_last_body-clause-found
@@ -29,7 +29,7 @@ returns-then-is_last_body-2-clause-found c =
     let is = c.blank_front-first.ensures.front in
     let index = first + 1 + c.blank_front.result in
     let left = parts_from children c.children_from-left.result.now first c.children_from-left.ensures in
-    let o = headed (parts_in children) first is
+    let o = header_stands_first (parts_in children) first is
     (ap (is_first (is_part_named (codes "Header"))) (sym left)
     ∙ (sym c.begins_with_header.ensures.header ∙ c.if-not-begins_with_header.false)) in
     let others = parts_from children c.children_from.result.now (first + 1) c.children_from.ensures in
