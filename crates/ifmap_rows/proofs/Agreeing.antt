@@ -52,8 +52,8 @@ module _ (row : Stored) (word : ℕ) (of : word ≡ word_of row) (index : List S
   abbrev below : Stored → Bool
   below s = ltb (word_of s) word
 
-  pub parted : IsPartitionedBy below index
-  parted = IsPartitionedBy-ltb word_of index word (words_rise index up)
+  pub words_part_index : IsPartitionedBy below index
+  words_part_index = IsPartitionedBy-ltb word_of index word (words_rise index up)
 
   module _ (i : ℕ) (point : IsPartitionPoint (λ y. below y ≡ true) (λ y. below y ≡ false) index i) where
     less : (s : Stored) → below s ≡ true → word ≡ word_of s → ⊥

@@ -21,9 +21,9 @@ use Rattle.ifmap_rows.specs.Indexed.{IsIndexed, without_one, word_order}
 use Rattle.ifmap_meta.specs.Keys.{word_of}
 use Rattle.ifmap_rows.specs.laws.RisingLaws.{none_equal, put_again}
 
-pub empty : IsIndexed [] []
+pub nothing_is_indexed : IsIndexed [] []
 unfolding IsStrictlySortedBy
-empty = record { rising = tt; worded = tt; there = λ s h. h; back = λ s h. h }
+nothing_is_indexed = record { rising = tt; worded = tt; there = λ s h. h; back = λ s h. h }
 
 pub words_total : IsTotalOrder word_order
 words_total = then_total (on_total word_of nat_cmp_total) stored_total
@@ -103,17 +103,17 @@ module _ (rows index : List Stored) (is : IsIndexed rows index) where
     }
 
 -- a row comes to both lists, and the one that it replaces goes from the index
-pub exchanged : (rows index next : List Stored) (is : IsIndexed rows index) (a : Stored) (replaced : Option Stored)
+pub exchange_keeps_index : (rows index next : List Stored) (is : IsIndexed rows index) (a : Stored) (replaced : Option Stored)
     → IfSome replaced (λ r. Has rows r × (stored_order r a ≡ Equal))
     → IfNone replaced (list_any (λ s. eq_by_cmp stored_order s a) rows ≡ false)
     → IfSome replaced (λ r. next ≡ put word_order a (without_one word_order r index))
     → IfNone replaced (next ≡ put word_order a index) → IsIndexed (put stored_order a rows) next
-exchanged rows index next is a (Some r) had none some other =
+exchange_keeps_index rows index next is a (Some r) had none some other =
     let left = take_keeps rows index is a r had.0 had.1 in
     let both = put_keeps (without_one stored_order a rows) (without_one word_order r index) left a (gone a rows) in
     subst (IsIndexed (put stored_order a rows)) (sym some)
     (subst (λ (l : List Stored). IsIndexed l (put word_order a (without_one word_order r index)))
     (put_again Stored stored_order stored_total a rows) both)
-exchanged rows index next is a None had none some other =
+exchange_keeps_index rows index next is a None had none some other =
     subst (IsIndexed (put stored_order a rows)) (sym other)
     (put_keeps rows index is a (none_equal Stored stored_order stored_total a rows none))

@@ -2,7 +2,7 @@ use Rattle.std.proofs.Common.{◌∙◌, arith, ltb, rules}
 use Rattle.std.proofs.lemmas.List.Sorted.{IsPartitionPoint-from_clause}
 use Rattle.ifmap_meta.specs.declared.stored.Stored.{Stored}
 use Rattle.ifmap_meta.specs.Keys.{word_of}
-use Rattle.ifmap_rows.proofs.Agreeing.{front_differs, none_at_end, none_beyond, parted, rest_least}
+use Rattle.ifmap_rows.proofs.Agreeing.{front_differs, none_at_end, none_beyond, rest_least, words_part_index}
 use Rattle.ifmap_rows.proofs.index.find_keyed.Goals as goal
 use Rattle.ifmap_rows.proofs.index.find_keyed.Goals.{then-loop-place-test+else-word, else-loop-place-test}
 
@@ -12,7 +12,7 @@ loop-place-init c =
     let of = c.row_word-word.ensures in
     let point =
     IsPartitionPoint-from_clause (λ (s : Stored). ltb (word_of s) word) _ _ c.partition_point-place.ensures.partitioned
-    (parted c.args.row.now word of c.args.index.now c.requires) (λ a r q k. search rules) in
+    (words_part_index c.args.row.now word of c.args.index.now c.requires) (λ a r q k. search rules) in
     record {
       within = c.partition_point-place.ensures.bound;
       passed = front_differs c.args.row.now word of c.args.index.now c.requires c.partition_point-place.result point;
