@@ -42,19 +42,19 @@ not_lacking name ts i t l is e h = lacks_at name ts i t l h (sym e ∙ ap (λ (u
 abbrev pub Onwards : List Attribute → ℕ → Type 0
 Onwards ts i = AllDiffer (names ts) ↔ AllDiffer (names (drop i ts))
 
-pub dropped : (ts : List Attribute) (i : ℕ) (d : Attribute) → i < length ts → drop i ts ≡ get_or ts i d ∷ drop (i + 1) ts
-dropped ts i d l = drop-cons ts i d l ∙ ap (λ (n : ℕ). get_or ts i d ∷ drop n ts) (sym (add-one i))
+pub drop_gives_next : (ts : List Attribute) (i : ℕ) (d : Attribute) → i < length ts → drop i ts ≡ get_or ts i d ∷ drop (i + 1) ts
+drop_gives_next ts i d l = drop-cons ts i d l ∙ ap (λ (n : ℕ). get_or ts i d ∷ drop n ts) (sym (add-one i))
 
 pub onwards_next : (ts : List Attribute) (i : ℕ) (d : Attribute) → i < length ts → Lacks (get_or ts i d).name (drop (i + 1) ts)
     → Onwards ts i → Onwards ts (i + 1)
 onwards_next ts i d l h at = (
-  λ a. (subst (λ (us : List Attribute). AllDiffer (names us)) (dropped ts i d l) (at.0 a)).1,
-  λ a. at.1 (subst (λ (us : List Attribute). AllDiffer (names us)) (sym (dropped ts i d l)) (h, a)),
+  λ a. (subst (λ (us : List Attribute). AllDiffer (names us)) (drop_gives_next ts i d l) (at.0 a)).1,
+  λ a. at.1 (subst (λ (us : List Attribute). AllDiffer (names us)) (sym (drop_gives_next ts i d l)) (h, a)),
 )
 
 pub onwards_not : (ts : List Attribute) (i : ℕ) (d : Attribute) → i < length ts → (Lacks (get_or ts i d).name (drop (i + 1) ts) → ⊥)
     → Onwards ts i → AllDiffer (names ts) → ⊥
-onwards_not ts i d l h at a = h (subst (λ (us : List Attribute). AllDiffer (names us)) (dropped ts i d l) (at.0 a)).0
+onwards_not ts i d l h at a = h (subst (λ (us : List Attribute). AllDiffer (names us)) (drop_gives_next ts i d l) (at.0 a)).0
 
 drop_none : (i : ℕ) → drop {A = Attribute} i [] ≡ []
 drop_none zero = refl

@@ -13,7 +13,7 @@ use Rattle.ifmap_elem.specs.declared.elements.Attribute.{Attribute}
 use Rattle.ifmap_elem.specs.declared.elements.Name.{Name}
 use Rattle.ifmap_lemmas.specs.Orderings.{both_equal}
 use Rattle.ifmap_lemmas.specs.Texts.{same_texts}
-use Rattle.ifmap_reader.proofs.NameLaws.{names, dropped}
+use Rattle.ifmap_reader.proofs.NameLaws.{names, drop_gives_next}
 use Rattle.ifmap_lemmas.specs.Members.{all_last}
 use Rattle.ifmap_lemmas.specs.Deciding.{or_parts}
 use Rattle.ifmap_lemmas.specs.Joined.{all_middle}
@@ -77,7 +77,7 @@ module _ (ts : List Attribute) (i : ℕ) (t : Attribute) (l : i < length ts) (is
   whole_is : names ts ≡ before ++ t.name ∷ names (drop (i + 1) ts)
   whole_is =
       ap names (sym (take-append-drop i ts) ∙ ap (λ us. take i ts ++ us)
-      (dropped ts i t l ∙ ap (λ (u : Attribute). u ∷ drop (i + 1) ts) (sym is)))
+      (drop_gives_next ts i t l ∙ ap (λ (u : Attribute). u ∷ drop (i + 1) ts) (sym is)))
       ∙ map-append (λ (u : Attribute). u.name) (take i ts) (t ∷ drop (i + 1) ts)
 
   there_is : has key ≡ list_any (same t.name) before
