@@ -67,10 +67,10 @@ module _ (scope : Scope) where
         let there : space_of scope q.prefix ≡ Some n.space = ap (λ (v : Qualified). space_of scope v.prefix) same ∙ s.space_is in
         cc
 
-    pub named : (done : List Test) (t : FilterToken) (name : Option element.Name) → AsksFor scope t name
+    pub name_goes_on : (done : List Test) (t : FilterToken) (name : Option element.Name) → AsksFor scope t name
         → ((other : Option element.Name) → AsksFor scope t other → other ≡ name)
         → (more : List FilterToken) → TestFirst scope filter done (t ∷ more) ↔ PredicateFirst scope filter done name more
-    named done t name asks only more = (
+    name_goes_on done t name asks only more = (
       (λ (test, mid, takes, rest).
           let same = same_parts t takes.head more takes.after takes.tokens_are in
           let is = only test.name (subst (λ (h : FilterToken). AsksFor scope h test.name) (sym same.0) takes.asks) in (
@@ -83,15 +83,16 @@ module _ (scope : Scope) where
           (test_of name p, mid, record { head = t; after = more; tokens_are = refl; asks = asks; holds = takes }, rest)),
     )
 
-    pub unnamed : (done : List Test) (t : FilterToken) → ((name : Option element.Name) → AsksFor scope t name → ⊥)
+    pub no_name_no_test : (done : List Test) (t : FilterToken) → ((name : Option element.Name) → AsksFor scope t name → ⊥)
         → (more : List FilterToken)
         → TestFirst scope filter done (t ∷ more) → ⊥
-    unnamed done t none more (test, mid, takes, rest) =
+    no_name_no_test done t none more (test, mid, takes, rest) =
         let same = same_parts t takes.head more takes.after takes.tokens_are in
         none test.name (subst (λ (h : FilterToken). AsksFor scope h test.name) (sym same.0) takes.asks)
 
-    pub started : (t : FilterToken) (more : List FilterToken) → IsFilter scope (t ∷ more) filter ↔ TestFirst scope filter [] (t ∷ more)
-    started t more = (
+    pub filter_starts : (t : FilterToken) (more : List FilterToken)
+        → IsFilter scope (t ∷ more) filter ↔ TestFirst scope filter [] (t ∷ more)
+    filter_starts t more = (
       (λ is. from filter.tests is refl),
       (λ (test, mid, takes, (tests, others, is)). subst (AreTests scope depth_limit (t ∷ more)) (sym is) (mid, takes, others)),
     )

@@ -19,7 +19,7 @@ use Rattle.ifmap_filter.specs.declared.tokens.FilterToken.{FilterToken}
 use Rattle.ifmap_filter.specs.declared.tokens.FilterToken.TheVariants.{Any, OpenBracket, CloseBracket, OpenParenthesis, CloseParenthesis, EqualsSign, At, Name}
 use Rattle.ifmap_filter.specs.Grammar.{and_word, unprefixed_name, or_word}
 use Rattle.ifmap_filter.specs.Tokens.{Takes, after_while, front_while, name_from, name_token, part_bytes, prefixed_name_at, symbol_of, front_token, token_at, without_white}
-use Rattle.ifmap_filter.proofs.TokenLaws.{named, one_symbol}
+use Rattle.ifmap_filter.proofs.TokenLaws.{one_symbol, start_begins_name}
 use Rattle.ifmap_prefixes.specs.ifmap_lexer.There.{is_quote}
 
 -- a name ends here
@@ -38,16 +38,16 @@ EndsName text = (cs : List ℕ) → Ends cs → Ends (chars text ++ cs)
 
 -- (1) texts in a row
 
-pub both : (a b : List ℕ) (s t : List FilterToken) → Lexes a s → Lexes b t → EndsName b → Lexes (a ++ b) (s ++ t)
-both a b s t l m ends = record {
+pub lexes_both : (a b : List ℕ) (s t : List FilterToken) → Lexes a s → Lexes b t → EndsName b → Lexes (a ++ b) (s ++ t)
+lexes_both a b s t l m ends = record {
   is_text = IsUtf8-append a b l.is_text m.is_text;
   to = λ cs e. subst (λ x. To Takes x (s ++ t) cs) (sym
       (ap (λ x. x ++ cs) (chars-append a b l.is_text) ∙ append_assoc (chars a) (chars b) cs))
       (to_both Takes (chars a ++ (chars b ++ cs)) s (chars b ++ cs) t cs (l.to (chars b ++ cs) (ends cs e)) (m.to cs e));
 }
 
-pub nothing : Lexes [] []
-nothing = record { is_text = IsUtf8-nil; to = λ cs e. ap (λ x. x ++ cs) chars-nil }
+pub lexes_nothing : Lexes [] []
+lexes_nothing = record { is_text = IsUtf8-nil; to = λ cs e. ap (λ x. x ++ cs) chars-nil }
 
 pub nothing_ends : EndsName []
 nothing_ends cs e = subst Ends (sym (ap (λ x. x ++ cs) chars-nil)) e
@@ -100,7 +100,7 @@ module _ (c : ℕ) (t : FilterToken) (s : IsSymbol c t) where
   }
 
   pub symbol_alone : Lexes (c ∷ []) (t ∷ [])
-  symbol_alone = before [] [] nothing
+  symbol_alone = before [] [] lexes_nothing
 
   pub symbol_ends : (text : List ℕ) → EndsName (c ∷ text)
   symbol_ends = one_ends c s.one s.no_character s.no_colon
@@ -147,8 +147,9 @@ white_is = one_of space_character refl (omega arith)
 pub white_ends : (text : List ℕ) → EndsName (space_character ∷ text)
 white_ends = one_ends space_character white_is refl refl
 
-pub spaced : (text : List ℕ) (t : FilterToken) (ts : List FilterToken) → Lexes text (t ∷ ts) → Lexes (space_character ∷ text) (t ∷ ts)
-spaced text t ts l = record {
+pub lexes_after_space : (text : List ℕ) (t : FilterToken) (ts : List FilterToken) → Lexes text (t ∷ ts)
+    → Lexes (space_character ∷ text) (t ∷ ts)
+lexes_after_space text t ts l = record {
   is_text = after_one space_character white_is text l.is_text;
   to = λ cs e. subst (λ x. To Takes x (t ∷ ts) cs) (sym (ap (λ x. x ++ cs) (one_first space_character white_is text))) (l.to cs e);
 }
@@ -212,7 +213,7 @@ module _ (bytes : List ℕ) (p : IsPart bytes) where
       → token_at (without_white ((p.first ∷ p.others) ++ rest)) ≡ name_from bytes rest
   part_token rest s =
       ap token_at (not_white p.first (p.others ++ rest) (start_no_white p.first p.begins))
-      ∙ named (p.first ∷ (p.others ++ rest)) p.first (p.others ++ rest) refl (start_no_quote p.first p.begins) p.begins
+      ∙ start_begins_name (p.first ∷ (p.others ++ rest)) p.first (p.others ++ rest) refl (start_no_quote p.first p.begins) p.begins
       ∙ (λ i. name_from (part_front rest s i) (part_after rest s i))
 
   pub lexed_bare : Lexes bytes (Name (unprefixed_name bytes) ∷ [])
@@ -283,9 +284,9 @@ pub record IsWord (word : List ℕ) (t : FilterToken) : Type 0 where
 word_stands : (part : List ℕ) → IsPart part → (text : List ℕ) (head : FilterToken) (ts : List FilterToken) → Lexes text (head ∷ ts)
     → Lexes (space_character ∷ (part ++ (space_character ∷ text))) (Name (unprefixed_name part) ∷ (head ∷ ts))
 word_stands part p text head ts l =
-    spaced (part ++ (space_character ∷ text)) (Name (unprefixed_name part)) (head ∷ ts)
-    (both part (space_character ∷ text) (Name (unprefixed_name part) ∷ []) (head ∷ ts) (lexed_bare part p) (spaced text head ts l)
-    (white_ends text))
+    lexes_after_space (part ++ (space_character ∷ text)) (Name (unprefixed_name part)) (head ∷ ts)
+    (lexes_both part (space_character ∷ text) (Name (unprefixed_name part) ∷ []) (head ∷ ts) (lexed_bare part p)
+    (lexes_after_space text head ts l) (white_ends text))
 
 pub or_is : IsWord (codes " or ") or_word
 or_is = record { stands = word_stands (codes "or") or_part; ends = λ text. white_ends (codes "or " ++ text) }

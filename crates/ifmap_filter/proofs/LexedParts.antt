@@ -23,7 +23,7 @@ use Rattle.ifmap_filter.specs.Printing.{literal_text, quote_of}
 use Rattle.ifmap_filter.specs.Tokens.{FrontToken, Takes, after_while, closed_literal, front_while, literal_at, name_at, name_from, name_token, part_bytes, prefixed_name_at, symbol_of, front_token, token_at, with_symbol, without_white}
 use Rattle.ifmap_filter.proofs.Lexed.{IsOne, IsPart, Lexes, after_all, after_one, front_all, not_white, one_chars, one_first, one_of}
 use Rattle.ifmap_filter.proofs.Reaching.{after_is, token_later, white_after}
-use Rattle.ifmap_filter.proofs.TokenLaws.{quoted}
+use Rattle.ifmap_filter.proofs.TokenLaws.{quote_begins_literal}
 use Rattle.ifmap_elem.specs.laws.NameBytes.{starts_are_characters}
 use Rattle.ifmap_prefixes.specs.ifmap_lexer.Cutting.{is_but}
 use Rattle.ifmap_prefixes.specs.ifmap_lexer.There.{is_quote}
@@ -118,7 +118,7 @@ module _ (q : ℕ) (is : IsQuote q) (value : List ℕ) (w : IsWithout q value) w
     to = λ cs e. subst (λ x. To Takes x (Literal value ∷ []) cs) (sym (literal_chars cs)) (
       cs,
       ap token_at (not_white q (w.own ++ (q ∷ cs)) is.no_white)
-          ∙ quoted (q ∷ (w.own ++ (q ∷ cs))) q (w.own ++ (q ∷ cs)) refl is.is ∙ literal_here cs,
+          ∙ quote_begins_literal (q ∷ (w.own ++ (q ∷ cs))) q (w.own ++ (q ∷ cs)) refl is.is ∙ literal_here cs,
       refl,
     );
   }

@@ -26,9 +26,9 @@ left_length after left v e =
     (λ cs. length (encode_utf8_all cs)) (sym e) in
     omega (arith, bound, same, byte_length left v)
 
-pub shorter : (scope : Scope) (w next : FilterState) (rest left : List ℕ) → IsUtf8 rest → StepsOn scope w rest next left
+pub step_shortens : (scope : Scope) (w next : FilterState) (rest left : List ℕ) → IsUtf8 rest → StepsOn scope w rest next left
     → length left < length rest
-shorter scope w next rest left u s =
+step_shortens scope w next rest left u s =
     let less = later_bytes (chars rest) s.after (token_later s.token s.after (chars rest) s.is_there) in
     omega (arith, less, left_length s.after left s.is_text s.left_is, byte_length rest u)
 
@@ -56,17 +56,17 @@ module _ (text : List ℕ) (scope : Scope) (u : IsUtf8 text) where
       cs = s.after;
       reached = next_place text scope w r.cs r.reached s.token s.after (takes s.token s.after s.is_there) next s.steps;
       rest_is = s.left_is;
-      within = (let l = shorter scope w next rest left v s in omega (arith, l, r.within));
+      within = (let l = step_shortens scope w next rest left v s in omega (arith, l, r.within));
     }
 
-    pub refused : length rest ≢ 0 → (at : ℕ) → at ≡ length text - length rest → (e : FilterError) → IsRefused scope w rest at e
+    pub refusal_is_parsed : length rest ≢ 0 → (at : ℕ) → at ≡ length text - length rest → (e : FilterError) → IsRefused scope w rest at e
         → IsParsed text scope (Err e)
-    refused some at is NoMemory stuck = tt
-    refused some at is (NotAFilter found) (same, inl none) =
+    refusal_is_parsed some at is NoMemory stuck = tt
+    refusal_is_parsed some at is (NotAFilter found) (same, inl none) =
         subst (StopsAt text scope) (sym (same ∙ is ∙ place))
         (stops_where_none text scope w r.cs r.reached (ap token_at (sym r.rest_is) ∙ none)
         (λ e. some_characters rest v some (r.rest_is ∙ e)))
-    refused some at is (NotAFilter found) (same, inr (t, after, there, none)) =
+    refusal_is_parsed some at is (NotAFilter found) (same, inr (t, after, there, none)) =
         subst (StopsAt text scope) (sym (same ∙ is ∙ place)) (stops_at_token text scope w r.cs r.reached t after (takes t after there) none)
 
     end : length rest ≡ 0 → without_white r.cs ≡ []

@@ -40,7 +40,7 @@ use Rattle.ifmap_filter.specs.Printing.{CanBeParsed, IsAnsweredBack, NestsNoDeep
 use Rattle.ifmap_filter.specs.Spaces.{HasSpaces, brackets_spaces, has_each, has_space, name_spaces, predicate_spaces, test_spaces}
 use Rattle.ifmap_filter.specs.Texts.{WritesFilterWithin}
 use Rattle.ifmap_filter.specs.Tokens.{Takes, name_token}
-use Rattle.ifmap_filter.proofs.Lexed.{EndsName, IsPart, IsWord, Lexes, and_is, any_is, at_is, before, both, close_bracket_is, close_is, equals_is, lexed_bare, lexed_prefixed, nothing, nothing_ends, open_bracket_is, open_is, or_is, symbol_alone, symbol_ends}
+use Rattle.ifmap_filter.proofs.Lexed.{EndsName, IsPart, IsWord, Lexes, and_is, any_is, at_is, before, close_bracket_is, close_is, equals_is, lexed_bare, lexed_prefixed, lexes_both, lexes_nothing, nothing_ends, open_bracket_is, open_is, or_is, symbol_alone, symbol_ends}
 use Rattle.ifmap_filter.proofs.Deciding.{one_filter, stops_where_no_filter}
 use Rattle.ifmap_filter.proofs.LexedParts.{AreTokens, IsLiteral, IsToken, are_tokens, lexed_literal}
 use Rattle.ifmap_filter.proofs.PrintLaws.{prints_and, prints_attr, prints_child, prints_or}
@@ -75,13 +75,14 @@ module _ (X : Type 0) (word : List ℕ) (wordy : FilterToken) (is : IsWord word 
       subst EndsName (sym (append_assoc word (text x) (more_text xs))) (is.ends (text x ++ more_text xs))
 
   forms_more : (xs : List X) → Each (λ x. Forms X Part (text x) x) xs → FormsMore xs
-  forms_more [] h = record { tokens = []; lexed = nothing; ends = nothing_ends; takes = λ rest. refl }
+  forms_more [] h = record { tokens = []; lexed = lexes_nothing; ends = nothing_ends; takes = λ rest. refl }
   forms_more (x ∷ xs) h =
       let f = h.0 in
       let m = forms_more xs h.1 in
       record {
         tokens = wordy ∷ (f.head ∷ (f.others ++ m.tokens));
-        lexed = both (word ++ text x) (more_text xs) (wordy ∷ (f.head ∷ f.others)) m.tokens (is.stands (text x) f.head f.others f.lexed)
+        lexed = lexes_both (word ++ text x) (more_text xs) (wordy ∷ (f.head ∷ f.others)) m.tokens
+            (is.stands (text x) f.head f.others f.lexed)
             m.lexed m.ends;
         ends = more_ends x xs;
         takes = λ rest. (
@@ -107,7 +108,7 @@ module _ (X : Type 0) (word : List ℕ) (wordy : FilterToken) (is : IsWord word 
       record {
         head = f.head;
         others = f.others ++ m.tokens;
-        lexed = both (text x) (more_text xs) (f.head ∷ f.others) m.tokens f.lexed m.lexed m.ends;
+        lexed = lexes_both (text x) (more_text xs) (f.head ∷ f.others) m.tokens f.lexed m.lexed m.ends;
         takes = λ rest. (
           m.tokens ++ rest,
           subst (λ ts. Part (f.head ∷ ts) x (m.tokens ++ rest)) (sym (append_assoc f.others m.tokens rest)) (f.takes (m.tokens ++ rest)),
@@ -275,7 +276,7 @@ attribute_back scope local value p l = record {
   others = Name (unprefixed_name local) ∷ (EqualsSign ∷ (Literal value ∷ []));
   lexed = before (byte "@") At at_is (local ++ (codes "=" ++ literal_text value))
       (Name (unprefixed_name local) ∷ (EqualsSign ∷ (Literal value ∷ [])))
-      (both local (codes "=" ++ literal_text value) (Name (unprefixed_name local) ∷ []) (EqualsSign ∷ (Literal value ∷ []))
+      (lexes_both local (codes "=" ++ literal_text value) (Name (unprefixed_name local) ∷ []) (EqualsSign ∷ (Literal value ∷ []))
       (lexed_bare local p) (equals_literal value l) (equals_ends value));
   takes = λ rest. inl (record { local = local; value = value; tokens_are = refl; means = refl });
 }
@@ -285,7 +286,7 @@ child_back : (spaces : List (List ℕ)) (name : element.Name) (value : List ℕ)
 child_back spaces name value n l = record {
   head = Name n.written;
   others = EqualsSign ∷ (Literal value ∷ []);
-  lexed = both (name_text spaces name) (codes "=" ++ literal_text value) (Name n.written ∷ []) (EqualsSign ∷ (Literal value ∷ []))
+  lexed = lexes_both (name_text spaces name) (codes "=" ++ literal_text value) (Name n.written ∷ []) (EqualsSign ∷ (Literal value ∷ []))
       n.lexed (equals_literal value l) (equals_ends value);
   takes = λ rest. inr (record { written = n.written; name = name; value = value; tokens_are = refl; named = n.stands; means = refl });
 }
@@ -406,7 +407,7 @@ module _ (spaces : List (List ℕ)) where
     head = OpenParenthesis;
     others = f.head ∷ (f.others ++ (CloseParenthesis ∷ []));
     lexed = before (byte "(") OpenParenthesis open_is (text ++ codes ")") (f.head ∷ (f.others ++ (CloseParenthesis ∷ [])))
-        (both text (codes ")") (f.head ∷ f.others) (CloseParenthesis ∷ []) f.lexed (symbol_alone (byte ")") CloseParenthesis close_is)
+        (lexes_both text (codes ")") (f.head ∷ f.others) (CloseParenthesis ∷ []) f.lexed (symbol_alone (byte ")") CloseParenthesis close_is)
         (symbol_ends (byte ")") CloseParenthesis close_is []));
     takes = λ rest.
         inr (
@@ -587,7 +588,8 @@ module _ (spaces : List (List ℕ)) where
         record {
           tokens = OpenBracket ∷ (f.head ∷ (f.others ++ (CloseBracket ∷ [])));
           lexed = before (byte "[") OpenBracket open_bracket_is (text ++ codes "]") (f.head ∷ (f.others ++ (CloseBracket ∷ [])))
-              (both text (codes "]") (f.head ∷ f.others) (CloseBracket ∷ []) f.lexed (symbol_alone (byte "]") CloseBracket close_bracket_is)
+              (lexes_both text (codes "]") (f.head ∷ f.others) (CloseBracket ∷ []) f.lexed (symbol_alone (byte "]") CloseBracket
+              close_bracket_is)
               (symbol_ends (byte "]") CloseBracket close_bracket_is []));
           ends = symbol_ends (byte "[") OpenBracket open_bracket_is (text ++ codes "]");
           takes = λ rest. (
@@ -604,7 +606,7 @@ module _ (spaces : List (List ℕ)) where
         → AreTokens ts
         → has_each spaces (brackets_spaces predicate) ≡ true → Tail predicate × AreTokens rest
     tail_back ts None rest e v has =
-        (record { tokens = []; lexed = nothing; ends = nothing_ends; takes = λ rest. refl }, subst AreTokens e v)
+        (record { tokens = []; lexed = lexes_nothing; ends = nothing_ends; takes = λ rest. refl }, subst AreTokens e v)
     tail_back ts (Some p) rest (inner, e, g) v has =
         let w : AreTokens (OpenBracket ∷ inner) = subst AreTokens e v in
         let part = or_back scope depth (factor_back scope depth) inner p (CloseBracket ∷ rest) g w.1 has in
@@ -615,7 +617,8 @@ module _ (spaces : List (List ℕ)) where
     test_forms test h t = record {
       head = h.token;
       others = t.tokens;
-      lexed = both (test_name_text spaces test.name) (brackets_text spaces test.predicate) (h.token ∷ []) t.tokens h.lexed t.lexed t.ends;
+      lexed = lexes_both (test_name_text spaces test.name) (brackets_text spaces test.predicate) (h.token ∷ []) t.tokens h.lexed
+          t.lexed t.ends;
       takes = λ rest. record { head = h.token; after = t.tokens ++ rest; tokens_are = refl; asks = h.asks; holds = t.takes rest };
     }
 

@@ -32,8 +32,8 @@ goes_deeper i near =
     (let l = length-reverse i.outer in let d = depth_limit_is in grind (arith, nat_tests, l, d, near)) in
     rw e refl
 
-pub pushed : (outer : List OuterPart) (outer_part : OuterPart) → reverse (outer ++ outer_part ∷ []) ≡ outer_part ∷ reverse outer
-pushed outer outer_part = reverse-append outer (outer_part ∷ [])
+pub reverse_push : (outer : List OuterPart) (outer_part : OuterPart) → reverse (outer ++ outer_part ∷ []) ≡ outer_part ∷ reverse outer
+reverse_push outer outer_part = reverse-append outer (outer_part ∷ [])
 
 pub not_single : (join : List Predicate → Predicate) (parts : List Predicate) → IsNotSingle parts → join_parts join parts ≡ join parts
 not_single join [] other = refl

@@ -22,7 +22,7 @@ use Rattle.ifmap_filter.specs.declared.progress.Operand.{Operand}
 use Rattle.ifmap_filter.specs.declared.progress.Operand.TheVariants as operand
 use Rattle.ifmap_filter.specs.Grammar.{AsksFor, StandsFor, TakesComparison, TakesFactor, TakesOrPart, TakesOrs, and_word, unprefixed_name, depth_limit, or_word, space_of}
 use Rattle.ifmap_filter.specs.Progress.{ClosesOpenParts, Context, FilterState, Start, TestDue, Named, Tested, FactorDue, LocalDue, EqualsDue, LiteralDue, FactorDone, AfterFactor, EqualsFirst, FactorFirst, IsFilterFrom, LiteralFirst, LocalFirst, MoreFactors, MoreTests, PredicateFirst, TestFirst, asks_named, child_named, close_group, close_test, comparison_of, done_part, inner_context, is_word, name_in, open_parts, next_part, step_token, step_done, step_equals, step_factor, step_literal, step_local, step_named, step_test, step_tested, test_of, with_factor}
-use Rattle.ifmap_filter.proofs.Continuing.{Refuses, and_more, any_asks, bare_named, name_asks, named, none_asks, not_that_word, or_more, or_part, other_more, started, tested_or, tested_other, unnamed, word_is}
+use Rattle.ifmap_filter.proofs.Continuing.{Refuses, and_more, any_asks, bare_named, filter_starts, name_asks, name_goes_on, no_name_no_test, none_asks, not_that_word, or_more, or_part, other_more, tested_or, tested_other, word_is}
 
 module _ (scope : Scope) where
   -- the step from a place by a token is right: the next place, where so much deeper, or none
@@ -54,20 +54,20 @@ module _ (scope : Scope) where
 
   test_named : (n : ℕ) (done : List Test) (q : Qualified) → n + 0 ≡ depth_limit → (o : Option (List ℕ)) → space_of scope q.prefix ≡ o
       → IsRight n (TestDue done) (Name q) (asks_named done (name_in o q.local))
-  test_named n done q e None is = λ filter more. unnamed scope filter done (Name q) (none_asks scope filter q is) more
+  test_named n done q e None is = λ filter more. no_name_no_test scope filter done (Name q) (none_asks scope filter q is) more
   test_named n done q e (Some space) is = (
     n,
     e,
-    (λ filter more. named scope filter done (Name q) (Some (record { space = space; local = q.local }))
+    (λ filter more. name_goes_on scope filter done (Name q) (Some (record { space = space; local = q.local }))
         (q, refl, record { space_is = is; local_is = refl })
         (name_asks scope filter q space is) more),
   )
 
   no_test : (n : ℕ) (done : List Test) (t : FilterToken) → t ≢ Any → ((q : Qualified) → t ≢ Name q) → IsRight n (TestDue done) t None
-  no_test n done t no_any no_name = λ filter more. unnamed scope filter done t (no_asks t no_any no_name) more
+  no_test n done t no_any no_name = λ filter more. no_name_no_test scope filter done t (no_asks t no_any no_name) more
 
   right_test : (n : ℕ) (done : List Test) → n + 0 ≡ depth_limit → (t : FilterToken) → IsRight n (TestDue done) t (step_test scope done t)
-  right_test n done e Any = (n, e, (λ filter more. named scope filter done Any None refl (any_asks scope filter) more))
+  right_test n done e Any = (n, e, (λ filter more. name_goes_on scope filter done Any None refl (any_asks scope filter) more))
   right_test n done e (Name q) = test_named n done q e (space_of scope q.prefix) refl
   right_test n done e OpenBracket = no_test n done OpenBracket (λ e. cc) (λ q e. cc)
   right_test n done e CloseBracket = no_test n done CloseBracket (λ e. cc) (λ q e. cc)
@@ -531,7 +531,7 @@ module _ (scope : Scope) where
 
   pub right : (n : ℕ) (w : FilterState) → n + open_parts w ≡ depth_limit → (t : FilterToken) → IsRight n w t (step_token scope w t)
   right n Start e t =
-      through n Start (TestDue []) t (λ filter more. started scope filter t more) (step_test scope [] t) (right_test n [] e t)
+      through n Start (TestDue []) t (λ filter more. filter_starts scope filter t more) (step_test scope [] t) (right_test n [] e t)
   right n (TestDue done) e t = right_test n done e t
   right n (Named done name) e t = right_named n done name e t
   right n (Tested done) e t = right_tested n done e t

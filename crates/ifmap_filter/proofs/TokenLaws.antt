@@ -6,14 +6,14 @@ use Rattle.ifmap_filter.specs.Tokens.{literal_at, name_at, symbol_of, front_toke
 use Rattle.ifmap_prefixes.specs.ifmap_lexer.There.{is_quote}
 
 module _ (cs : List ℕ) (c : ℕ) (more : List ℕ) (is : cs ≡ c ∷ more) where
-  pub quoted : is_quote c ≡ true → token_at cs ≡ literal_at c more
-  quoted q = ap token_at is ∙ by
+  pub quote_begins_literal : is_quote c ≡ true → token_at cs ≡ literal_at c more
+  quote_begins_literal q = ap token_at is ∙ by
     where
       by : token_at (c ∷ more) ≡ literal_at c more
       by = rw q refl
 
-  pub named : is_quote c ≡ false → is_name_start c ≡ true → token_at cs ≡ name_at cs
-  named q n = ap token_at is ∙ by ∙ ap name_at (sym is)
+  pub start_begins_name : is_quote c ≡ false → is_name_start c ≡ true → token_at cs ≡ name_at cs
+  start_begins_name q n = ap token_at is ∙ by ∙ ap name_at (sym is)
     where
       by : token_at (c ∷ more) ≡ name_at (c ∷ more)
       by = rw (q, n) refl

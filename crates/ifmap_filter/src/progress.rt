@@ -214,7 +214,7 @@ fn take_factor(
 }
 
 // After an opening parenthesis: not allowed where it is one too deep.
-#[tactic(auto, using(crate::proofs::StandingLaws::too_deep, crate::proofs::StandingLaws::goes_deeper, crate::proofs::StandingLaws::pushed))]
+#[tactic(auto, using(crate::proofs::StandingLaws::too_deep, crate::proofs::StandingLaws::goes_deeper, crate::proofs::StandingLaws::reverse_push))]
 fn open_group(alloc: Global, standing: &mut FilterProgress) -> Result<bool, NoMemory>
     ensures { IfOk result (λ allowed. StandsAt allowed standing.new
         (inner_place (context standing.old.open_part))) }

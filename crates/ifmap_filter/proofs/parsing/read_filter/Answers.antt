@@ -3,7 +3,7 @@ use Rattle.std.proofs.lemmas.Result.{err_from_is_err_and}
 use Rattle.ifmap_filter.specs.Progress.{filter_state}
 use Rattle.ifmap_filter.specs.Reaching.{IsRefused, ReachesWhite}
 use Rattle.ifmap_filter.specs.Texts.{IsParsed}
-use Rattle.ifmap_filter.proofs.ParseLaws.{begin, ends_parse, go_on, none_left, refused, shorter, some_left}
+use Rattle.ifmap_filter.proofs.ParseLaws.{begin, ends_parse, go_on, none_left, refusal_is_parsed, some_left, step_shortens}
 use Rattle.ifmap_filter.proofs.parsing.read_filter.Goals as goal
 
 pub loop-rest-init : goal.loop-rest-init
@@ -24,7 +24,7 @@ loop-rest-preserved c =
 
 pub loop-rest-smaller : goal.loop-rest-smaller
 loop-rest-smaller c =
-    shorter c.args.scope.now (filter_state c.loop-rest.standing) (filter_state c.read_token.new.standing) c.loop-rest.rest.now
+    step_shortens c.args.scope.now (filter_state c.loop-rest.standing) (filter_state c.read_token.new.standing) c.loop-rest.rest.now
     c.in_ok-left.left.now c.loop-rest.invariant.0 c.in_ok-left.ensures.next
 
 pub returns : goal.returns
@@ -40,8 +40,8 @@ returns-in_err-left c =
     (length c.args.text.now - length c.loop-rest.rest.now) c.in_err-left.field-0.0 =
     c.in_err-left.ensures.refused in
     subst (IsParsed c.args.text.now c.args.scope.now) (sym p.1)
-    (refused c.args.text.now c.args.scope.now c.utf8.text (filter_state c.loop-rest.standing) c.loop-rest.rest.now c.loop-rest.invariant.0
-    c.loop-rest.invariant.1 (some_left c.loop-rest.rest.now (sym c.is_empty.ensures ∙ c.loop-rest-test.true))
+    (refusal_is_parsed c.args.text.now c.args.scope.now c.utf8.text (filter_state c.loop-rest.standing) c.loop-rest.rest.now
+    c.loop-rest.invariant.0 c.loop-rest.invariant.1 (some_left c.loop-rest.rest.now (sym c.is_empty.ensures ∙ c.loop-rest-test.true))
     (length c.args.text.now - length c.loop-rest.rest.now) refl p.0
     (subst (IsRefused c.args.scope.now (filter_state c.loop-rest.standing) c.loop-rest.rest.now
     (length c.args.text.now - length c.loop-rest.rest.now)) (sym p.2) stuck))
