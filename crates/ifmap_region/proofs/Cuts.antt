@@ -39,15 +39,15 @@ module _ (count : ℕ → ℕ) (rows rows' : List (ℕ × Option ℕ)) (gone : L
     | inr apart ↦ ap is_some (others x apart) ∙ h
   ]
 
-  pub unlooked : (x : ℕ) → IsSome (row_of rows x) → v ≢ x
-  unlooked x h at = let s = some_row (row_of rows x) h in none-some s.0 (sym unrowed ∙ ap (row_of rows) at ∙ s.1)
+  pub rowed_differs : (x : ℕ) → IsSome (row_of rows x) → v ≢ x
+  rowed_differs x h at = let s = some_row (row_of rows x) h in none-some s.0 (sym unrowed ∙ ap (row_of rows) at ∙ s.1)
 
   pub looked_more : (gone' : List ℕ) (r : Option ℕ) (before steps after : ℕ) → row_of rows' v ≡ Some r
       → after + sum_by count gone ≤ steps + count v + sum_by count gone'
       → IsLookedAt count rows gone before steps → IsLookedAt count rows' gone' before after
   looked_more gone' r before steps after here le l = record {
     numbers = v ∷ l.numbers;
-    distinct = distinct_cons v l.numbers (All-weaker (λ (x : ℕ). IsSome (row_of rows x)) (λ (x : ℕ). v ≢ x) unlooked l.numbers l.among)
+    distinct = distinct_cons v l.numbers (All-weaker (λ (x : ℕ). IsSome (row_of rows x)) (λ (x : ℕ). v ≢ x) rowed_differs l.numbers l.among)
         l.distinct;
     among = All-cons (λ (x : ℕ). IsSome (row_of rows' x)) v l.numbers (is_some_row (row_of rows' v) r here)
         (All-weaker (λ (x : ℕ). IsSome (row_of rows x)) (λ (x : ℕ). IsSome (row_of rows' x)) (still_rowed r here) l.numbers l.among);

@@ -62,8 +62,8 @@ module _ (links : ℕ → ℕ → Type 0) (terminal : ℕ → Bool) (start top :
     sound_from v k e = let h = (depths v k).0 e in (h.within, h.walk)
 
     -- a walk within the bound ends in a number with a mark, which is no greater
-    pub marked : (v k : ℕ) → k ≤ top → Walk links terminal start k v → (j : ℕ) × (m v ≡ Some j) × (j ≤ k)
-    marked v k within w = by (m v) refl
+    pub walk_has_mark : (v k : ℕ) → k ≤ top → Walk links terminal start k v → (j : ℕ) × (m v ≡ Some j) × (j ≤ k)
+    walk_has_mark v k within w = by (m v) refl
       where
         by : (o : Option ℕ) → m v ≡ o → (j : ℕ) × (m v ≡ Some j) × (j ≤ k)
         by None e = absurd (no_walk v (λ n h. none-some n (sym e ∙ (depths v n).1 h)) (suc k) k (omega arith) within w)
@@ -73,16 +73,16 @@ module _ (links : ℕ → ℕ → Type 0) (terminal : ℕ → Bool) (start top :
     marked_start = (depths start 0).1 (record { within = omega arith; walk = begins refl; least = λ j w. omega arith })
 
     pub closed_from : (x y d : ℕ) → Expands terminal top m x d → links x y → (j : ℕ) × (m y ≡ Some j) × (j ≤ suc d)
-    closed_from x y d e l = marked y (suc d) (omega (arith, e.below)) (goes_on ((depths x d).0 e.marked).walk e.passable l)
+    closed_from x y d e l = walk_has_mark y (suc d) (omega (arith, e.below)) (goes_on ((depths x d).0 e.marked).walk e.passable l)
 
     -- a number at some depth has a neighbour that is nearer by one and not terminal
-    pub supported : (v d : ℕ) → m v ≡ Some (suc d) → (u : ℕ) × links u v × (terminal u ≡ false) × (m u ≡ Some d)
-    supported v d e = by (HasDepth.walk ((depths v (suc d)).0 e))
+    pub mark_has_support : (v d : ℕ) → m v ≡ Some (suc d) → (u : ℕ) × links u v × (terminal u ≡ false) × (m u ≡ Some d)
+    mark_has_support v d e = by (HasDepth.walk ((depths v (suc d)).0 e))
       where
         by : Walk links terminal start (suc d) v → (u : ℕ) × links u v × (terminal u ≡ false) × (m u ≡ Some d)
         by (goes_on {u = u} w t l) =
             let h = (depths v (suc d)).0 e in
-            let f = marked u d (omega (arith, h.within)) w in
+            let f = walk_has_mark u d (omega (arith, h.within)) w in
             let g = h.least (suc f.0) (goes_on (sound_from u f.0 f.1).1 t l) in
             let same : f.0 ≡ d = omega (arith, f.2, g) in
             (u, l, t, f.1 ∙ ap Some same)

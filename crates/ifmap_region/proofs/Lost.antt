@@ -13,7 +13,7 @@ use Rattle.ifmap_region.specs.Walks.{Walk, begins, goes_on, AreDepths, Expands}
 use Rattle.ifmap_region.specs.Near.{IsMoved}
 use Rattle.ifmap_region.specs.Losing.{GetsMarkedRow, HasNearerMark, IsLosing, AreGone, Reseeds}
 use Rattle.ifmap_region.specs.Spreading.{IsBound, IsReady}
-use Rattle.ifmap_region.proofs.Depths.{marked, marked_start, closed_from, supported, sound_from, walk_along}
+use Rattle.ifmap_region.proofs.Depths.{walk_has_mark, marked_start, closed_from, mark_has_support, sound_from, walk_along}
 
 module _ (rows : List (ℕ × Option ℕ)) (below : ℕ → Option ℕ) (v : ℕ) where
   pub over_unrowed : row_of rows v ≡ None → mark_over rows below v ≡ below v
@@ -63,7 +63,8 @@ module _ (old mid : ℕ → ℕ → Type 0) (terminal : ℕ → Bool) (start top
 
   -- a number without a row gets one, and comes into the queue
   module _ (rows rows' : List (ℕ × Option ℕ)) (seeds seeds' queued queued' : ℕ → ℕ → Type 0) (level j v : ℕ)
-      (e : GetsMarkedRow j v rows rows') (first_here : first v ≡ Some j) (above : 0 < j) (near : IsNear v)
+      (e : GetsMarkedRow j v rows rows')
+      (first_here : first v ≡ Some j) (above : 0 < j) (near : IsNear v)
       (there : (k x : ℕ) → seeds k x → ((k ≡ j) × (x ≡ v)) ⊎ seeds' k x) (back : (k x : ℕ) → seeds' k x → seeds k x)
       (kept : (k x : ℕ) → queued k x → queued' k x) (new : queued' j v) (out : (k x : ℕ) → queued' k x → ((k ≡ j) × (x ≡ v)) ⊎ queued k x)
     where
@@ -174,8 +175,8 @@ module _ (old mid : ℕ → ℕ → Type 0) (terminal : ℕ → Bool) (start top
           by : (d : ℕ) → level ≡ suc d → Walk mid terminal start (suc d) v → ⊥
           by d is (goes_on {u = u} w t link) =
               let bound = (sound_from old terminal start top first depths v level first_waited.0).0 in
-              let m = marked old terminal start top first depths u d (omega (arith, bound, is)) (walk_along mid old terminal start within
-              d u w) in
+              let m = walk_has_mark old terminal start top first depths u d (omega (arith, bound, is))
+              (walk_along mid old terminal start within d u w) in
               let s = closed_from old terminal start top first depths u v m.0 (record {
                 marked = m.1;
                 below = omega (
@@ -296,7 +297,7 @@ module _ (old mid : ℕ → ℕ → Type 0) (terminal : ℕ → Bool) (start top
         go : ((u : ℕ) → mark_over rows first u ≡ Some d → Walk mid terminal start d u) → (o : Option (Option ℕ)) → row_of rows v ≡ o
             → Walk mid terminal start (suc d) v
         go shorter None u =
-            let s = supported old terminal start top first depths v d (first_of_over v (suc d) e) in
+            let s = mark_has_support old terminal start top first depths v d (first_of_over v (suc d) e) in
             elim (l.firm v s.0 d (first_of_over v (suc d) e) u s.1 s.2 s.3) [
               | inl w ↦ absurd (no_seed (suc d) v w)
               | inr p ↦ goes_on (shorter s.0 p.1) s.2 p.0

@@ -17,7 +17,7 @@ use Rattle.ifmap_region.specs.Seeds.{IsNext, Lowers, SeedsAlong}
 use Rattle.ifmap_region.specs.Spreading.{queue_at, IsBound, IsReady, Improves}
 use Rattle.ifmap_region.specs.Losing.{Reseeds, IsBeforeCut, IsCutting}
 use Rattle.ifmap_region.specs.Walks.{Walk, goes_on, AreDepths, Expands}
-use Rattle.ifmap_region.proofs.Depths.{marked, marked_start, closed_from, sound_from, walk_along, no_walk}
+use Rattle.ifmap_region.proofs.Depths.{walk_has_mark, marked_start, closed_from, sound_from, walk_along, no_walk}
 use Rattle.ifmap_region.proofs.Lost.{ready_left, over_unrowed, over_rowed}
 use Rattle.ifmap_region.proofs.Cuts.{some_row}
 
@@ -88,7 +88,7 @@ module _ (links : ℕ → ℕ → Type 0) (terminal : ℕ → Bool) (count : ℕ
   improved_gone v i = by (row_of rows v) refl
     where
       old : (j : ℕ) × (first v ≡ Some j) × (j ≤ i.links_of_it)
-      old = marked (WithRemoved links flips) terminal start top first b.depths v i.links_of_it i.within
+      old = walk_has_mark (WithRemoved links flips) terminal start top first b.depths v i.links_of_it i.within
           (walk_along links (WithRemoved links flips) terminal start (λ u w l. inl l) i.links_of_it v i.walk)
 
       by : (o : Option (Option ℕ)) → row_of rows v ≡ o → Contains gone v

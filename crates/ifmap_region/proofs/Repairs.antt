@@ -13,7 +13,7 @@ use Rattle.ifmap_region.specs.Links.{Linked, IsSymmetric}
 use Rattle.ifmap_region.specs.Losing.{IsBeforeCut}
 use Rattle.ifmap_region.specs.Near.{at_flip, touched, beside, NearOneWay, NearFlips, SameDepth}
 use Rattle.ifmap_region.specs.Walks.{Walk, begins, goes_on, HasDepth, AreDepths}
-use Rattle.ifmap_region.proofs.Depths.{marked, walk_along}
+use Rattle.ifmap_region.proofs.Depths.{walk_along, walk_has_mark}
 
 -- the bounds of a cut and of growth, over one set
 pub spent_both : (count : ℕ → ℕ) (Among First Second : ℕ → Type 0) (before mid after : ℕ)
@@ -110,7 +110,7 @@ module _ {S : Type 0} (count : ℕ → ℕ) (link : ℕ → ℕ → Option ℕ) 
 
     module _ (depths : AreDepths (Old (Linked count link) flips) terminal start top m) where
       old_reached : (k v : ℕ) → k ≤ top → Walk (Old (Linked count link) flips) terminal start k v → (j : ℕ) × (m v ≡ Some j)
-      old_reached k v le w = let f = marked (Old (Linked count link) flips) terminal start top m depths v k le w in (f.0, f.1)
+      old_reached k v le w = let f = walk_has_mark (Old (Linked count link) flips) terminal start top m depths v k le w in (f.0, f.1)
 
       mid_reached : (k v : ℕ) → k ≤ top → Walk (Mid (Linked count link) flips) terminal start k v → (j : ℕ) × (m v ≡ Some j)
       mid_reached k v le w =
