@@ -8,8 +8,8 @@ use Rattle.ifmap_session.specs.Places.{IsPlaceOf}
 
 module _ (X K : Type 0) (key : X → K) (C : K → K → Ordering) (o : IsTotalOrder C) (E : K → K → Bool) (same : (x y : K)
     → E x y ≡ is_eq (C x y)) where
-  pub placed : (xs : List X) (k : K) (r : Result ℕ ℕ) → IsStrictlySortedBy (on key C) xs → IsSearchInRange r (length xs)
+  pub search_gives_place : (xs : List X) (k : K) (r : Result ℕ ℕ) → IsStrictlySortedBy (on key C) xs → IsSearchInRange r (length xs)
       → IsBinarySearchResult (λ y. C (key y) k) xs r → IsPlaceOf (λ y. E (key y) k) xs r
-  placed xs k (Ok i) up within is =
+  search_gives_place xs k (Ok i) up within is =
       (within, the_one X K key C o E same xs i k up within is, others X K key C o E same xs i k up within is)
-  placed xs k (Err i) up within is = (within, gap_finds_none X K key C o E same xs i k up is)
+  search_gives_place xs k (Err i) up within is = (within, gap_finds_none X K key C o E same xs i k up is)

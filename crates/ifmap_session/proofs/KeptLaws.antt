@@ -1,5 +1,5 @@
 -- All that is kept, as calls change it.
--- First: the session of one row changes (`rewritten`), in its queue alone (`kept_queue`) or in its last moment, which sets
+-- First: the session of one row changes (`one_row_changes`), in its queue alone (`kept_queue`) or in its last moment, which sets
 -- its stamp (`kept_renewed`). Then: what holds of the stamps as a session ends (`moments_ended`) or begins (`moments_begun`).
 use Rattle.std.proofs.Common.{◌≡◌, ◌≢◌, refl, sym, ◌∙◌, ap, ℕ, suc, ◌<◌, ◌≤◌, ◌==◌, List, [], ◌∷◌, ◌++◌, length, set, Some, inl, arith}
 use Rattle.std.proofs.lemmas.List.{length-set}
@@ -76,9 +76,9 @@ change_none n (s ∷ live) = rw (same_either_way (s.serial == n) s, change_none 
 
 module _ {counter : ℕ} {rows : List SessionRow} {holders : List Holder} {width : ℕ} {tree : List ℕ}
     (k : AreTied counter rows holders width tree) (n place : ℕ) (a : Seat) (e : slice_get rows place ≡ Some (row_of n a)) where
-  pub rewritten : (new : List SessionRow) (f : Session → Session) (P : Seat → Seat → Type 0) → KeepsIdAndClient f
+  pub one_row_changes : (new : List SessionRow) (f : Session → Session) (P : Seat → Seat → Type 0) → KeepsIdAndClient f
       → Rewrites place (ChangesSeat f P) rows new → Rewritten counter n f P rows new holders
-  rewritten new f P keeps w =
+  one_row_changes new f P keeps w =
       let r = w n a e in
       let b : Seat = r.0 in
       let own = own_at n rows place a k.sessions.own.own e in
@@ -119,7 +119,7 @@ module _ {counter : ℕ} {rows : List SessionRow} {holders : List Holder} {width
   pub kept_queue : (new : List SessionRow) (f : Session → Session) (P : Seat → Seat → Type 0) → ChangesQueue f
       → Rewrites place (ChangesSeat f P) rows new → AreTied counter new holders width tree
   kept_queue new f P c w =
-      let r = rewritten new f P c.names w in
+      let r = one_row_changes new f P c.names w in
       record { sessions = r.sessions; clients = r.clients; moments = moments_same new f P c.last w }
 
   -- it is set
@@ -142,7 +142,7 @@ module _ {counter : ℕ} {rows : List SessionRow} {holders : List Holder} {width
       → Rewrites place (ChangesSeat (with_last moment) P) rows new → Restamps width place moment tree tree2
       → AreTied counter new holders width tree2
   kept_renewed new P moment tree2 w restamped =
-      let r = rewritten new (with_last moment) P (renewed_keeps moment) w in
+      let r = one_row_changes new (with_last moment) P (renewed_keeps moment) w in
       record { sessions = r.sessions; clients = r.clients; moments = moments_set new P moment tree2 w restamped }
 
   -- a place is one that stamps are for

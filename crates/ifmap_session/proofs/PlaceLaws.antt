@@ -13,17 +13,18 @@ use Rattle.ifmap_session.specs.Rows.{AreOwn, live_in, serial_at}
 use Rattle.ifmap_session.specs.Places.{IsPlaceOf}
 use Rattle.ifmap_session.specs.Seats.{Seat}
 use Rattle.ifmap_session.specs.Sessions.{session_with_serial}
-use Rattle.ifmap_session.proofs.Halving.{placed}
+use Rattle.ifmap_session.proofs.Halving.{search_gives_place}
 use Rattle.ifmap_session.proofs.RowLaws.{none_in_row, none_of, row_of}
 use Rattle.ifmap_lemmas.specs.Finding.{none_passes}
 
 module _ (rows : List SessionRow) (n : ℕ) (o : AreOwn rows) where
-  pub nowhere : (r : Result ℕ ℕ) → IsSearchInRange r (length rows) → IsBinarySearchResult (λ (x : SessionRow). nat_cmp x.serial n) rows r
+  pub no_place_no_session : (r : Result ℕ ℕ) → IsSearchInRange r (length rows)
+      → IsBinarySearchResult (λ (x : SessionRow). nat_cmp x.serial n) rows r
       → result_ok r ≡ None → session_with_serial n (live_in rows) ≡ None
-  nowhere (Ok i) within is e = cc
-  nowhere (Err i) within is e =
+  no_place_no_session (Ok i) within is e = cc
+  no_place_no_session (Err i) within is e =
       let place : IsPlaceOf (λ (x : SessionRow). x.serial == n) rows (Err i) =
-      placed SessionRow ℕ (λ (x : SessionRow). x.serial) nat_cmp nat_cmp_total (λ a b. a == b) equal_by_order rows n
+      search_gives_place SessionRow ℕ (λ (x : SessionRow). x.serial) nat_cmp nat_cmp_total (λ a b. a == b) equal_by_order rows n
       (Err i) o.rising within is in
       none_of n rows o.own (none_passes (λ (x : SessionRow). x.serial == n) rows place.1)
 

@@ -21,21 +21,21 @@ pub one_more_fits : (queue : List PollItem) (size more : ℕ) → size ≡ sum_b
 one_more_fits queue size more e few low = let h = counted_few queue in omega arith
 
 -- what passes a test and what does not, together
-pub parted : (p : PollItem → Bool) (queue : List PollItem)
+pub sizes_add_up : (p : PollItem → Bool) (queue : List PollItem)
     → sum_by counted_size (filter p queue) + sum_by counted_size (filter (λ item. not (p item)) queue) ≡ sum_by counted_size queue
-parted p queue = sum_by-filter_both p (λ item. not (p item)) (λ item. refl) counted_size queue
+sizes_add_up p queue = sum_by-filter_both p (λ item. not (p item)) (λ item. refl) counted_size queue
 
 pub named_more_fits : (p : PollItem → Bool) (queue : List PollItem) (size more : ℕ) → size ≡ sum_by counted_size (filter p queue)
     → length queue < 2 ^ 64 → more < 2 ^ 64 → size + more < 2 ^ 128
-named_more_fits p queue size more e few low = let h = parted p queue in let f = counted_few queue in omega arith
+named_more_fits p queue size more e few low = let h = sizes_add_up p queue in let f = counted_few queue in omega arith
 
 pub rest_size : (p : PollItem → Bool) (queue rest : List PollItem) (size named : ℕ) → size ≡ sum_by counted_size queue
     → named ≡ sum_by counted_size (filter p queue) → rest ≡ filter (λ item. not (p item)) queue → size - named ≡ sum_by counted_size rest
-rest_size p queue rest size named e f g = let h = parted p queue in rw g (omega arith)
+rest_size p queue rest size named e f g = let h = sizes_add_up p queue in rw g (omega arith)
 
 pub named_within : (p : PollItem → Bool) (queue : List PollItem) (size named : ℕ) → size ≡ sum_by counted_size queue
     → named ≡ sum_by counted_size (filter p queue) → named ≤ size
-named_within p queue size named e f = let h = parted p queue in omega arith
+named_within p queue size named e f = let h = sizes_add_up p queue in omega arith
 
 two_stops : (a b c : ℕ) → min b (2 ^ 64 - 1) ≡ min c (2 ^ 64 - 1) → min (min a (2 ^ 64 - 1) + b) (2 ^ 64 - 1) ≡ min (a + c) (2 ^ 64 - 1)
 two_stops a b c e = omega arith

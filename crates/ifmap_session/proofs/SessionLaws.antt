@@ -33,7 +33,7 @@ use Rattle.ifmap_session.specs.Sessions.{IsLive, Session, change, is_same_text, 
 use Rattle.ifmap_session.specs.laws.TableLaws.{KeepsIdAndClient, clients_same, length_same, one_changed, one_numbered}
 use Rattle.ifmap_lemmas.specs.Keyed.{keys_filter, keys_push, rest_differ}
 use Rattle.ifmap_session.specs.laws.TextLaws.{text_is, text_itself}
-use Rattle.ifmap_session.proofs.Halving.{placed}
+use Rattle.ifmap_session.proofs.Halving.{search_gives_place}
 use Rattle.ifmap_session.proofs.RowLaws.{Own, Up, begun_last, changed_in_row, counted_filter, counted_push, counted_set, empty_row, ended_in_row, found_in_row, own_filter, own_push, own_set, row_of, seats_filter}
 use Rattle.ifmap_lemmas.specs.Filters.{all_weaker, filter_all, filter_passes, filter_shorter, found_all}
 use Rattle.ifmap_lemmas.specs.Finding.{none_passes}
@@ -42,7 +42,7 @@ pub holder_placed : (holders : List Holder) (client : List ℕ) (r : Result ℕ 
     → IsSearchInRange r (length holders) → IsBinarySearchResult (λ (h : Holder). slice_cmp nat_cmp h.client client) holders r → IsPlaceOf
     (λ (h : Holder). is_same_text h.client client) holders r
 holder_placed holders client r up within is =
-    placed Holder (List ℕ) (λ (h : Holder). h.client) (slice_cmp nat_cmp) nat_list_cmp_total is_same_text
+    search_gives_place Holder (List ℕ) (λ (h : Holder). h.client) (slice_cmp nat_cmp) nat_list_cmp_total is_same_text
     (λ a b. sym (is_eq-slice_cmp a b)) holders client r up within is
 
 pub holder_gap : (holders : List Holder) (client : List ℕ) (i : ℕ) → IsStrictlySortedBy client_order holders → i ≤ length holders

@@ -1,13 +1,13 @@
 use Rattle.std.proofs.Common.{rules, ◌≡◌, sym, ◌∙◌}
 use Rattle.std.proofs.lemmas.List.Sorted.{answers_always}
-use Rattle.ifmap_session.proofs.PlaceLaws.{nowhere, row_empty, row_there}
+use Rattle.ifmap_session.proofs.PlaceLaws.{no_place_no_session, row_empty, row_there}
 use Rattle.ifmap_session.proofs.rows.place_of_serial.Goals as goal
 
 pub returns-in_err-place : goal.returns-in_err-place
 returns-in_err-place c =
     let is = c.binary_search_by_key.ensures.position (λ x. x.serial)
     (answers_always _ (λ a r. r ≡ a.0.now.serial) _ (λ f a r q k. search rules)) in
-    rw c.from_residual.ensures (nowhere c.args.rows.now c.args.serial c.requires c.binary_search_by_key.result
+    rw c.from_residual.ensures (no_place_no_session c.args.rows.now c.args.serial c.requires c.binary_search_by_key.result
     c.binary_search_by_key.ensures.bound is (sym c.ok.ensures.value ∙ c.in_err-place.was))
 
 pub returns-then-is_some : goal.returns-then-is_some

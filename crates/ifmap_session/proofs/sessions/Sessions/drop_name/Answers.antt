@@ -1,6 +1,6 @@
 use Rattle.std.proofs.Common.{refl, ◌≤◌, arith}
 use Rattle.ifmap_session.specs.Sessions.{without_name}
-use Rattle.ifmap_session.proofs.KeptLaws.{kept_queue, name_dropped, rewritten}
+use Rattle.ifmap_session.proofs.KeptLaws.{kept_queue, name_dropped, one_row_changes}
 use Rattle.ifmap_session.proofs.sessions.Sessions.drop_name.Goals as goal
 
 pub drop_name_at-requires : goal.drop_name_at-requires
@@ -17,7 +17,7 @@ invariant_of-self c =
 pub returns-clause-changes : goal.returns-clause-changes
 returns-clause-changes c =
     let got = rw c.deref.ensures.value at c.place_in-place.ensures in
-    let r = rewritten c.self.invariant c.args.serial c.place_in-place.result got.0 got.1 c.drop_name_at.new.rows.items
+    let r = one_row_changes c.self.invariant c.args.serial c.place_in-place.result got.0 got.1 c.drop_name_at.new.rows.items
     (without_name c.args.name.now) (λ a b. a.spare ≤ b.spare)
     (name_dropped c.args.name.now).names c.drop_name_at.ensures.rows in
     rw (← c.self.view_is) (record {
@@ -30,7 +30,7 @@ returns-clause-changes c =
 pub returns-clause-spare : goal.returns-clause-spare
 returns-clause-spare c =
     let got = rw c.deref.ensures.value at c.place_in-place.ensures in
-    let r = rewritten c.self.invariant c.args.serial c.place_in-place.result got.0 got.1 c.drop_name_at.new.rows.items
+    let r = one_row_changes c.self.invariant c.args.serial c.place_in-place.result got.0 got.1 c.drop_name_at.new.rows.items
     (without_name c.args.name.now) (λ a b. a.spare ≤ b.spare)
     (name_dropped c.args.name.now).names c.drop_name_at.ensures.rows in
     let w = r.was in let i = r.is in let h = r.holds in

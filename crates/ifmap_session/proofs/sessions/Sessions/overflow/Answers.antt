@@ -1,6 +1,6 @@
 use Rattle.std.proofs.Common.{◌≡◌, refl, sym, ◌∙◌, ap, subst, ◌+◌, ◌≤◌, length, arith}
 use Rattle.ifmap_session.specs.Sessions.{Session, with_error}
-use Rattle.ifmap_session.proofs.KeptLaws.{kept_queue, queue_overflowed, rewritten}
+use Rattle.ifmap_session.proofs.KeptLaws.{kept_queue, one_row_changes, queue_overflowed}
 use Rattle.ifmap_session.proofs.RowLaws.{found_in_row, spare_found}
 use Rattle.ifmap_session.proofs.sessions.Sessions.overflow.Goals as goal
 
@@ -28,7 +28,7 @@ invariant_of-self c =
 pub returns-clause-changes : goal.returns-clause-changes
 returns-clause-changes c =
     let got = rw c.deref.ensures.value at c.place_in-place.ensures in
-    let r = rewritten c.self.invariant c.args.serial c.place_in-place.result got.0 got.1 c.overflow_at.new.rows.items
+    let r = one_row_changes c.self.invariant c.args.serial c.place_in-place.result got.0 got.1 c.overflow_at.new.rows.items
     (with_error c.args.error) (λ a b. b.spare + 1 ≡ a.spare + length a.session.queue)
     (queue_overflowed c.args.error).names c.overflow_at.ensures.rows in
     rw (← c.self.view_is) (record {
@@ -41,7 +41,7 @@ returns-clause-changes c =
 pub returns-clause-spare : goal.returns-clause-spare
 returns-clause-spare c = λ s is.
     let got = rw c.deref.ensures.value at c.place_in-place.ensures in
-    let r = rewritten c.self.invariant c.args.serial c.place_in-place.result got.0 got.1 c.overflow_at.new.rows.items
+    let r = one_row_changes c.self.invariant c.args.serial c.place_in-place.result got.0 got.1 c.overflow_at.new.rows.items
     (with_error c.args.error) (λ a b. b.spare + 1 ≡ a.spare + length a.session.queue)
     (queue_overflowed c.args.error).names c.overflow_at.ensures.rows in
     let same : r.before.session ≡ s = cc (sym r.there ∙ (rw (← c.self.view_is) at is)) in

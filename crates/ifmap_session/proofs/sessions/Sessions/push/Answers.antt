@@ -1,6 +1,6 @@
 use Rattle.std.proofs.Common.{◌≡◌, refl, subst, ◌+◌, ◌≤◌, arith}
 use Rattle.ifmap_session.specs.Sessions.{with_item}
-use Rattle.ifmap_session.proofs.KeptLaws.{item_queued, kept_queue, rewritten}
+use Rattle.ifmap_session.proofs.KeptLaws.{item_queued, kept_queue, one_row_changes}
 use Rattle.ifmap_session.proofs.RowLaws.{spare_found}
 use Rattle.ifmap_session.proofs.sessions.Sessions.push.Goals as goal
 
@@ -27,7 +27,7 @@ invariant_of-self c =
 pub returns-clause-changes : goal.returns-clause-changes
 returns-clause-changes c =
     let got = rw c.deref.ensures.value at c.place_in-place.ensures in
-    let r = rewritten c.self.invariant c.args.serial c.place_in-place.result got.0 got.1 c.push_at.new.rows.items
+    let r = one_row_changes c.self.invariant c.args.serial c.place_in-place.result got.0 got.1 c.push_at.new.rows.items
     (with_item c.args.item) (λ a b. b.spare + 1 ≡ a.spare)
     (item_queued c.args.item).names c.push_at.ensures.rows in
     rw (← c.self.view_is) (record {
@@ -40,7 +40,7 @@ returns-clause-changes c =
 pub returns-clause-spare : goal.returns-clause-spare
 returns-clause-spare c =
     let got = rw c.deref.ensures.value at c.place_in-place.ensures in
-    let r = rewritten c.self.invariant c.args.serial c.place_in-place.result got.0 got.1 c.push_at.new.rows.items
+    let r = one_row_changes c.self.invariant c.args.serial c.place_in-place.result got.0 got.1 c.push_at.new.rows.items
     (with_item c.args.item) (λ a b. b.spare + 1 ≡ a.spare)
     (item_queued c.args.item).names c.push_at.ensures.rows in
     let w = r.was in let i = r.is in let h = r.holds in

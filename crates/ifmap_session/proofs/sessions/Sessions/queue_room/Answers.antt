@@ -1,7 +1,7 @@
 use Rattle.std.proofs.Common.{refl, sym, ◌∙◌, subst, ◌≤◌, arith}
 use Rattle.std.specs.Result.{OnOk}
 use Rattle.ifmap_session.specs.Rows.{live_in}
-use Rattle.ifmap_session.proofs.KeptLaws.{Rewritten, change_none, kept_queue, queue_stays, rewritten}
+use Rattle.ifmap_session.proofs.KeptLaws.{Rewritten, change_none, kept_queue, one_row_changes, queue_stays}
 use Rattle.ifmap_session.proofs.sessions.Sessions.queue_room.Goals.{After-reserve_at}
 use Rattle.ifmap_session.proofs.sessions.Sessions.queue_room.Goals as goal
 
@@ -22,7 +22,7 @@ made_room : (c : After-reserve_at) → Rewritten c.self.inside.counter c.args.se
     c.self.inside.holders.items
 made_room c =
     let got = rw c.deref.ensures.value at c.place_in-place.ensures in
-    rewritten c.self.invariant c.args.serial c.place_in-place.result got.0 got.1 c.reserve_at.new.rows.items (λ s. s)
+    one_row_changes c.self.invariant c.args.serial c.place_in-place.result got.0 got.1 c.reserve_at.new.rows.items (λ s. s)
     (λ a b. (a.spare ≤ b.spare) × OnOk c.reserve_at.result (c.args.n ≤ b.spare)) queue_stays.names c.reserve_at.ensures.rows
 
 pub returns-clause-changes : goal.returns-clause-changes

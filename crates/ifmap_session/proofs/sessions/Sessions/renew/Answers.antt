@@ -1,7 +1,7 @@
 use Rattle.std.proofs.Common.{◌≡◌, refl, subst, arith}
 use Rattle.ifmap_session.specs.Sessions.{with_last}
 use Rattle.ifmap_session.specs.Stamps.{Restamps}
-use Rattle.ifmap_session.proofs.KeptLaws.{kept_renewed, place_within, rewritten}
+use Rattle.ifmap_session.proofs.KeptLaws.{kept_renewed, one_row_changes, place_within}
 use Rattle.ifmap_session.proofs.RowLaws.{spare_same}
 use Rattle.ifmap_session.proofs.sessions.Sessions.renew.Goals as goal
 use Rattle.ifmap_session.specs.laws.TableLaws.{renewed_keeps}
@@ -22,7 +22,7 @@ invariant_of-self c =
 pub returns-clause-changes : goal.returns-clause-changes
 returns-clause-changes c =
     let got = rw c.deref.ensures.value at c.place_in-place.ensures in
-    let r = rewritten c.self.invariant c.args.serial c.place_in-place.result got.0 got.1 c.renew_at.new.rows.items
+    let r = one_row_changes c.self.invariant c.args.serial c.place_in-place.result got.0 got.1 c.renew_at.new.rows.items
     (with_last c.args.moment) (λ a b. b.spare ≡ a.spare)
     (renewed_keeps c.args.moment) c.renew_at.ensures.rows in
     rw (← c.self.view_is) (record {

@@ -1,6 +1,6 @@
 use Rattle.std.proofs.Common.{◌≡◌, refl, ◌∙◌, sym, ap, arith}
 use Rattle.ifmap_session.specs.Sessions.{Session, without_items}
-use Rattle.ifmap_session.proofs.KeptLaws.{Rewritten, kept_queue, queue_emptied, rewritten}
+use Rattle.ifmap_session.proofs.KeptLaws.{Rewritten, kept_queue, one_row_changes, queue_emptied}
 use Rattle.ifmap_session.proofs.sessions.Sessions.take_all.Goals.{After-take_all_at}
 use Rattle.ifmap_session.proofs.sessions.Sessions.take_all.Goals as goal
 
@@ -21,7 +21,7 @@ taken : (c : After-take_all_at) → Rewritten c.self.inside.counter c.args.seria
     c.self.inside.holders.items
 taken c =
     let got = rw c.deref.ensures.value at c.place_in-place.ensures in
-    rewritten c.self.invariant c.args.serial c.place_in-place.result got.0 got.1 c.take_all_at.new.rows.items without_items
+    one_row_changes c.self.invariant c.args.serial c.place_in-place.result got.0 got.1 c.take_all_at.new.rows.items without_items
     (λ a b. (b.spare ≡ 0) × (c.take_all_at.result ≡ a.session.queue)) queue_emptied.names c.take_all_at.ensures.rows
 
 pub returns-clause-changes : goal.returns-clause-changes
