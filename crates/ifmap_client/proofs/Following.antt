@@ -14,21 +14,21 @@ use Rattle.ifmap_client.specs.Keeping.{kept_sets, without_sets}
 
 module _ (m n : BTreeMap (List ℕ) (List Entry)) (name : List ℕ) where
   -- a map that is updated under a name
-  pub updated : (set : Option (List Entry)) → Updates (slice_cmp nat_cmp) m n name set
+  pub update_sets_name : (set : Option (List Entry)) → Updates (slice_cmp nat_cmp) m n name set
       → kept_sets n ≡ set_under name set (kept_sets m)
-  updated set u = λ i q. (u.0 q ∙ ap (λ b. cond b set (get (slice_cmp nat_cmp) m q)) (sym (texts_ties name q))) i
+  update_sets_name set u = λ i q. (u.0 q ∙ ap (λ b. cond b set (get (slice_cmp nat_cmp) m q)) (sym (texts_ties name q))) i
 
   -- a map in which a set was written through what it lent
-  pub written : (old w : List Entry) (set : Option (List Entry)) → Some old ≡ get (slice_cmp nat_cmp) m name
+  pub write_sets_name : (old w : List Entry) (set : Option (List Entry)) → Some old ≡ get (slice_cmp nat_cmp) m name
       → WritesThrough (slice_cmp nat_cmp) (slice_cmp nat_cmp name) m w n → Some w ≡ set
       → kept_sets n ≡ set_under name set (kept_sets m)
-  written old w set found through is =
-      updated (Some w) (through.3 (ap is_some (sym found))) ∙ ap (λ o. set_under name o (kept_sets m)) is
+  write_sets_name old w set found through is =
+      update_sets_name (Some w) (through.3 (ap is_some (sym found))) ∙ ap (λ o. set_under name o (kept_sets m)) is
 
   -- a set that is begun, under a copy of its name
-  pub begun : (key : List ℕ) (entries set : List Entry) → Updates (slice_cmp nat_cmp) m n key (Some set) → key ≡ name
+  pub beginning_sets_name : (key : List ℕ) (entries set : List Entry) → Updates (slice_cmp nat_cmp) m n key (Some set) → key ≡ name
       → set ≡ with_entries entries [] → kept_sets n ≡ set_under name (Some (with_entries entries [])) (kept_sets m)
-  begun key entries set u k s =
+  beginning_sets_name key entries set u k s =
       (λ i q. (u.0 q ∙ ap (λ b. cond b (Some set) (get (slice_cmp nat_cmp) m q)) (sym (texts_ties key q))) i)
       ∙ (λ i. set_under (k i) (Some (s i)) (kept_sets m))
 

@@ -19,12 +19,12 @@ use Rattle.ifmap_folds.specs.laws.FoldingLaws.{entries_tie, difference_none, ent
 -- ---- taking out by place
 
 -- where the search for a place ends
-pub placed : (e : Entry) (entries : List Entry) (r : Result ℕ ℕ) → IsStrictlySortedBy entry_order entries
+pub search_gives_entry_place : (e : Entry) (entries : List Entry) (r : Result ℕ ℕ) → IsStrictlySortedBy entry_order entries
     → IsSearchInRange r (length entries) → IsBinarySearchResult (λ x. entry_order x e) entries r → IsEntryPlace e entries r
-placed e entries (Ok i) up within is =
+search_gives_entry_place e entries (Ok i) up within is =
     let p = found_is_put Entry entry_order entries_total e entries i up within is in
     (p.0, p.1, remove_tied entry_order entries_total e entries i up within is)
-placed e entries (Err i) up within is =
+search_gives_entry_place e entries (Err i) up within is =
     let p = gap_is_put Entry entry_order entries_total e entries i up within is in (
       p.0,
       p.1,

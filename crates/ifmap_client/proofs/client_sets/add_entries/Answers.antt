@@ -5,14 +5,14 @@ use Rattle.std.specs.BTreeMap.{is_at}
 use Rattle.std.specs.Cmp.Lexicographic.{slice_cmp}
 use Rattle.std.specs.Ordering.{nat_cmp}
 use Rattle.ifmap_folds.specs.Folds.{with_entries}
-use Rattle.ifmap_client.proofs.Following.{written}
+use Rattle.ifmap_client.proofs.Following.{write_sets_name}
 use Rattle.ifmap_client.proofs.client_sets.add_entries.Goals as goal
 
 pub returns-in-Some-clause-folded : goal.returns-in-Some-clause-folded
 returns-in-Some-clause-folded c =
     let w = c.add.new.self in
     on_ok_weaker c.add.result (λ (e : w ≡ with_entries c.args.entries.now c.in-Some.set.now).
-    written c.args.sets.now (c.get_mut.follows.lender w) c.args.name.now c.in-Some.set.now w _ c.in-Some.ensures.value
+    write_sets_name c.args.sets.now (c.get_mut.follows.lender w) c.args.name.now c.in-Some.set.now w _ c.in-Some.ensures.value
     (c.get_mut.follows.holds w)
     (ap Some e ∙ ap (λ o. Some (with_entries c.args.entries.now (unwrap_or o []))) c.in-Some.ensures.value)) c.add.ensures.added
 
