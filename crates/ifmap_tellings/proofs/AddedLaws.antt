@@ -1,5 +1,5 @@
 -- What is added to what a session is to be told: nothing (`adds_nothing`), one after another (`adds_both`), to items with their size
--- (`sized_after`), and to nothing yet (`begun`, `begun_size`). Then what is at one key of a map that changed there.
+-- (`sized_after`), and to nothing yet (`begin_adds`, `begun_size`). Then what is at one key of a map that changed there.
 use Rattle.std.proofs.Common.{◌≡◌, ◌≢◌, refl, sym, ◌∙◌, ap, subst, ℕ, ◌+◌, ◌-◌, ◌^◌, ◌<◌, ◌≤◌, min, false, List, [], ◌++◌, Option, None, Some, append_assoc, inl, inr, arith}
 use Rattle.std.proofs.lemmas.Bool.{cases_eq, ltb-false}
 use Rattle.std.proofs.lemmas.List.{append-nil}
@@ -48,9 +48,9 @@ sized_after n live all items size more sum small sized = λ s e. (
 )
 
 -- to nothing yet
-pub begun : (items : List PollItem) (size : ℕ) (new : Option Telling) → items ≢ [] → AddsTo items (Some (After [] size)) new
+pub begin_adds : (items : List PollItem) (size : ℕ) (new : Option Telling) → items ≢ [] → AddsTo items (Some (After [] size)) new
     → AddsTo items None new
-begun items size new some adds = record {
+begin_adds items size new some adds = record {
   told = λ s. adds.told s ∙ ap (tell_session items) (tell_nothing s);
   alone = adds.alone;
   brought = λ h e. some;

@@ -4,14 +4,14 @@ use Rattle.ifmap_search.specs.declared.results.PollItem.{PollItem}
 use Rattle.ifmap_tellings.specs.Tellings.{AddsTo, IsSized}
 use Rattle.ifmap_tellings.specs.declared.tellings.Telling.TheVariants.{After}
 use Rattle.ifmap_lemmas.specs.Numbers.{others_untied}
-use Rattle.ifmap_tellings.proofs.AddedLaws.{begun, begun_size}
+use Rattle.ifmap_tellings.proofs.AddedLaws.{begin_adds, begun_size}
 use Rattle.ifmap_tellings.proofs.queueing.begin_telling.Goals as goal
 
 pub returns-clause-added : goal.returns-clause-added
 returns-clause-added c =
     let size = c.queue_size-size.result.0
     in let items = c.args.items
-    in begun items size _ c.requires.some
+    in begin_adds items size _ c.requires.some
     (subst (λ o. AddsTo items (Some (After [] size)) o) (sym c.in_ok-insert.ensures.updates.1)
     (subst (λ (none : List PollItem). AddsTo items (Some (After none size)) (Some c.add_items.new.telling)) c.new.ensures
     c.in_ok-add_items.ensures.added))

@@ -3,7 +3,7 @@ use Rattle.std.specs.BTreeMap.{get}
 use Rattle.std.specs.Ordering.{nat_cmp}
 use Rattle.ifmap_standing.specs.ifmap_machine.Telling.{is_overfull}
 use Rattle.ifmap_tellings.specs.Tellings.{flags_since, is_alone, tell_by}
-use Rattle.ifmap_tellings.proofs.FlagLaws.{bare}
+use Rattle.ifmap_tellings.proofs.FlagLaws.{alone_are_bare}
 use Rattle.ifmap_tellings.proofs.NewsLaws.{brought_all, gone_long, mid_can, mid_fits, mid_within, queues_within, told_all}
 use Rattle.ifmap_tellings.proofs.QueuedLaws.{left_alone}
 use Rattle.ifmap_tellings.proofs.tellings.queue_news.Goals as goal
@@ -58,4 +58,5 @@ returns-clause-brought c =
 
 pub returns-clause-alone : goal.returns-clause-alone
 returns-clause-alone c =
-    bare c.overflow_all.new.tellings c.flag_too_big.new.gone.items c.flag_alone.new.gone.items c.args.standing.now c.flag_alone.ensures
+    alone_are_bare c.overflow_all.new.tellings c.flag_too_big.new.gone.items c.flag_alone.new.gone.items c.args.standing.now
+    c.flag_alone.ensures
