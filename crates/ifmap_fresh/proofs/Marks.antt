@@ -22,15 +22,15 @@ has_row (x ∷ xs) v h = elim (cases_Bool (nat_eq v x.0)) [
   ]
 ]
 
-pub keyed : (es : List (ℕ × Option ℕ)) (v k : ℕ) → mark_of es v ≡ Some k → Has (numbers_of es) v
-keyed es v k e = by (row_of es v) refl
+pub mark_has_number : (es : List (ℕ × Option ℕ)) (v k : ℕ) → mark_of es v ≡ Some k → Has (numbers_of es) v
+mark_has_number es v k e = by (row_of es v) refl
   where
     by : (o : Option (Option ℕ)) → row_of es v ≡ o → Has (numbers_of es) v
     by None f = absurd (none-some k (sym (ap (λ o. unwrap_or o None) f) ∙ e))
     by (Some r) f = row_has es v r f
 
-pub marked : (es : List (ℕ × Option ℕ)) → AllMarked es → (v : ℕ) → Has (numbers_of es) v → (k : ℕ) × (mark_of es v ≡ Some k)
-marked es all v h = let r = has_row es v h in by r.0 r.1
+pub number_has_mark : (es : List (ℕ × Option ℕ)) → AllMarked es → (v : ℕ) → Has (numbers_of es) v → (k : ℕ) × (mark_of es v ≡ Some k)
+number_has_mark es all v h = let r = has_row es v h in by r.0 r.1
   where
     by : (r : Option ℕ) → row_of es v ≡ Some r → (k : ℕ) × (mark_of es v ≡ Some k)
     by None f = absurd (all v f)

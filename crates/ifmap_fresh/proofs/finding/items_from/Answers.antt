@@ -8,7 +8,7 @@ use Rattle.ifmap_region.specs.Marks.{mark_of}
 use Rattle.ifmap_fresh.specs.Collected.{numbers_of}
 use Rattle.ifmap_fresh.specs.Linking.{IsReachedAt}
 use Rattle.ifmap_fresh.proofs.Collected.{AreCollected, all_collected}
-use Rattle.ifmap_fresh.proofs.Marks.{keyed, marked}
+use Rattle.ifmap_fresh.proofs.Marks.{mark_has_number, number_has_mark}
 use Rattle.ifmap_fresh.proofs.Meaning.{mark_walk, reached_is, steps_are}
 use Rattle.ifmap_fresh.proofs.finding.items_from.Given as given
 use Rattle.ifmap_fresh.proofs.finding.items_from.Goals as goal
@@ -34,7 +34,8 @@ looked_at g c =
     (λ items e.
     all_collected c.bytes_tell_identifiers_apart.ensures (g.V.View.rows view) (g.V.View.id_at view)
     (g.V.View.links view) c.args.search.now c.requires.whole c.requires.identifier c.args.start c.requires.start
-    (mark_of es) c.in_ok-region.ensures.depths (numbers_of es) (keyed es) (marked es c.in_ok-region.ensures.rows) items.items e)
+    (mark_of es) c.in_ok-region.ensures.depths (numbers_of es) (mark_has_number es) (number_has_mark es c.in_ok-region.ensures.rows)
+    items.items e)
     c.collect.ensures.items
 
 pub returns-in_err-region-clause-steps : goal.returns-in_err-region-clause-steps
@@ -59,7 +60,7 @@ returns-clause-steps g c =
     in let weight : ℕ → ℕ = λ v. length (g.V.View.links view v)
     in let Among : ℕ → Type 0 = IsReachedAt (g.V.View.rows view) (g.V.View.id_at view) c.args.search.now
     in let reached : (v : ℕ) → Has (numbers_of es) v → Among v = λ v h.
-    let m = marked es c.in_ok-region.ensures.rows v h
+    let m = number_has_mark es c.in_ok-region.ensures.rows v h
     in let w = mark_walk (g.V.View.rows view) (g.V.View.id_at view)
     (g.V.View.links view) c.args.search.now c.requires.whole c.args.start c.requires.start
     (mark_of es) c.in_ok-region.ensures.depths v m.0 m.1
