@@ -44,10 +44,10 @@ parts_are [] = refl
 parts_are (part ∷ parts) = ap (λ rest. part_written part ++ rest) (parts_are parts)
 
 -- an element without children prints as a tag with its attributes in order
-tag_of : (local : List ℕ) (attributes : List Attribute) (parts : List (List ℕ × List ℕ))
+prints_as_tag : (local : List ℕ) (attributes : List Attribute) (parts : List (List ℕ × List ℕ))
     → sort_attributes attributes ≡ map attribute_of parts
     → canonical_bytes (bare_element local attributes []) ≡ codes "<" ++ (local ++ (flat_map part_written parts ++ codes "/>"))
-tag_of local attributes parts e =
+prints_as_tag local attributes parts e =
     ap (root_bytes []) (at_element Child.Child Element arrange_child_of arrange_element_of (bare_element local attributes [])
     ∙ ap (λ sorted. bare_element local sorted []) e)
     ∙ ap (λ spaces. element_of_parts (name_prefixes spaces) (numbered_prefixes (codes "n") 1 spaces ++ []) (bare_name local)
@@ -78,10 +78,10 @@ access_request_printed : (name domain : List ℕ) → identifier_bytes (AccessRe
     (AccessRequest name domain)
 unfolding identifier_bytes
 access_request_printed name [] =
-    tag_of (codes "access-request") _ ((codes "name", name) ∷ []) refl
+    prints_as_tag (codes "access-request") _ ((codes "name", name) ∷ []) refl
     ∙ ap (λ t. codes "<access-request" ++ t) (one_part (attribute_written (codes "name") name))
 access_request_printed name (b ∷ d) =
-    tag_of (codes "access-request") _ ((domain_name, b ∷ d) ∷ ((codes "name", name) ∷ [])) refl
+    prints_as_tag (codes "access-request") _ ((domain_name, b ∷ d) ∷ ((codes "name", name) ∷ [])) refl
     ∙ ap (λ t. codes "<access-request" ++ t) (two_parts (attribute_written domain_name (b ∷ d)) (attribute_written (codes "name") name))
 
 -- an address of some type, and one without
@@ -90,20 +90,20 @@ typed_address_printed : (type value domain : List ℕ) → canonical_bytes (bare
     ≡ codes "<ip-address" ++ (domain_written domain ++ (attribute_written (codes "type") type ++ (attribute_written
     (codes "value") value ++ codes "/>")))
 typed_address_printed type value [] =
-    tag_of (codes "ip-address") _ ((codes "type", type) ∷ ((codes "value", value) ∷ [])) refl
+    prints_as_tag (codes "ip-address") _ ((codes "type", type) ∷ ((codes "value", value) ∷ [])) refl
     ∙ ap (λ t. codes "<ip-address" ++ t) (two_parts (attribute_written (codes "type") type) (attribute_written (codes "value") value))
 typed_address_printed type value (b ∷ d) =
-    tag_of (codes "ip-address") _ ((domain_name, b ∷ d) ∷ ((codes "type", type) ∷ ((codes "value", value) ∷ []))) refl
+    prints_as_tag (codes "ip-address") _ ((domain_name, b ∷ d) ∷ ((codes "type", type) ∷ ((codes "value", value) ∷ []))) refl
     ∙ ap (λ t. codes "<ip-address" ++ t) (three_parts (attribute_written domain_name (b ∷ d)) (attribute_written (codes "type") type)
     (attribute_written (codes "value") value))
 
 mac_address_printed : (value domain : List ℕ) → identifier_bytes (MacAddress value domain) ≡ identifier_written (MacAddress value domain)
 unfolding identifier_bytes
 mac_address_printed value [] =
-    tag_of (codes "mac-address") _ ((codes "value", mac_address_text value) ∷ []) refl
+    prints_as_tag (codes "mac-address") _ ((codes "value", mac_address_text value) ∷ []) refl
     ∙ ap (λ t. codes "<mac-address" ++ t) (one_part (attribute_written (codes "value") (mac_address_text value)))
 mac_address_printed value (b ∷ d) =
-    tag_of (codes "mac-address") _ ((domain_name, b ∷ d) ∷ ((codes "value", mac_address_text value) ∷ [])) refl
+    prints_as_tag (codes "mac-address") _ ((domain_name, b ∷ d) ∷ ((codes "value", mac_address_text value) ∷ [])) refl
     ∙ ap (λ t. codes "<mac-address" ++ t) (two_parts (attribute_written domain_name (b ∷ d))
     (attribute_written (codes "value") (mac_address_text value)))
 
@@ -111,19 +111,19 @@ identity_printed : (name : List ℕ) (kind : IdentityType) (other domain : List 
     → identifier_bytes (Identity name kind other domain) ≡ identifier_written (Identity name kind other domain)
 unfolding identifier_bytes
 identity_printed name kind [] [] =
-    tag_of (codes "identity") _ ((codes "name", name) ∷ ((codes "type", identity_type_name kind) ∷ [])) refl
+    prints_as_tag (codes "identity") _ ((codes "name", name) ∷ ((codes "type", identity_type_name kind) ∷ [])) refl
     ∙ ap (λ t. codes "<identity" ++ t) (two_parts (attribute_written (codes "name") name)
     (attribute_written (codes "type") (identity_type_name kind)))
 identity_printed name kind [] (b ∷ d) =
-    tag_of (codes "identity") _ ((domain_name, b ∷ d) ∷ ((codes "name", name) ∷ ((codes "type", identity_type_name kind) ∷ []))) refl
+    prints_as_tag (codes "identity") _ ((domain_name, b ∷ d) ∷ ((codes "name", name) ∷ ((codes "type", identity_type_name kind) ∷ []))) refl
     ∙ ap (λ t. codes "<identity" ++ t) (three_parts (attribute_written domain_name (b ∷ d)) (attribute_written (codes "name") name)
     (attribute_written (codes "type") (identity_type_name kind)))
 identity_printed name kind (o ∷ os) [] =
-    tag_of (codes "identity") _ ((codes "name", name) ∷ ((other_name, o ∷ os) ∷ ((codes "type", identity_type_name kind) ∷ []))) refl
+    prints_as_tag (codes "identity") _ ((codes "name", name) ∷ ((other_name, o ∷ os) ∷ ((codes "type", identity_type_name kind) ∷ []))) refl
     ∙ ap (λ t. codes "<identity" ++ t) (three_parts (attribute_written (codes "name") name) (attribute_written other_name (o ∷ os))
     (attribute_written (codes "type") (identity_type_name kind)))
 identity_printed name kind (o ∷ os) (b ∷ d) =
-    tag_of (codes "identity") _
+    prints_as_tag (codes "identity") _
     ((domain_name, b ∷ d) ∷ ((codes "name", name) ∷ ((other_name, o ∷ os) ∷ ((codes "type", identity_type_name kind) ∷ [])))) refl
     ∙ ap (λ t. codes "<identity" ++ t) (four_parts (attribute_written domain_name (b ∷ d)) (attribute_written (codes "name") name)
     (attribute_written other_name (o ∷ os)) (attribute_written (codes "type") (identity_type_name kind)))
