@@ -28,14 +28,14 @@ use Rattle.ifmap_writing.proofs.WiderLaws.{writes_in}
 
 -- ---- (1) rows
 
-abbrev Rows : Type 0
-Rows = List (List ℕ × List ℕ)
+abbrev TextPairs : Type 0
+TextPairs = List (List ℕ × List ℕ)
 
-abbrev keys : Rows → List (List ℕ)
+abbrev keys : TextPairs → List (List ℕ)
 keys rows = map (λ (r : List ℕ × List ℕ). r.0) rows
 
 module _ (p : List ℕ) where
-  none_of_key : (k : List ℕ) (rows : Rows) → bytes_eq p k ≡ true → AllByRecursion (λ y. k ≢ y) (keys rows)
+  none_of_key : (k : List ℕ) (rows : TextPairs) → bytes_eq p k ≡ true → AllByRecursion (λ y. k ≢ y) (keys rows)
       → lookup (bytes_eq p) rows ≡ None
   none_of_key k [] same f = refl
   none_of_key k (r ∷ rows) same f =
@@ -43,11 +43,12 @@ module _ (p : List ℕ) where
       false_from_ne_true (bytes_eq p r.0) (λ e. f.0 (sym (eq_tells p k same) ∙ eq_tells p r.0 e)) in
       rw other (none_of_key k rows same f.1)
 
-  last_other : (rows : Rows) (k s : List ℕ) → bytes_eq p k ≡ false → lookup (bytes_eq p) (rows ++ (k, s) ∷ []) ≡ lookup (bytes_eq p) rows
+  last_other : (rows : TextPairs) (k s : List ℕ) → bytes_eq p k ≡ false → lookup (bytes_eq p) (rows ++ (k, s) ∷ [])
+      ≡ lookup (bytes_eq p) rows
   last_other [] k s e = rw e refl
   last_other (r ∷ rows) k s e = ap (cond (bytes_eq p r.0) (Some r.1)) (last_other rows k s e)
 
-  last_new : (rows : Rows) (k s : List ℕ) → bytes_eq p k ≡ true → lookup (bytes_eq p) rows ≡ None
+  last_new : (rows : TextPairs) (k s : List ℕ) → bytes_eq p k ≡ true → lookup (bytes_eq p) rows ≡ None
       → lookup (bytes_eq p) (rows ++ (k, s) ∷ []) ≡ Some s
   last_new [] k s e none = rw e refl
   last_new (r ∷ rows) k s e none = elim (cases_Bool (bytes_eq p r.0)) [
@@ -56,7 +57,7 @@ module _ (p : List ℕ) where
   ]
 
   -- turned round
-  found_turned : (rows : Rows) → AllDiffer (keys rows) → lookup (bytes_eq p) (reverse rows) ≡ lookup (bytes_eq p) rows
+  found_turned : (rows : TextPairs) → AllDiffer (keys rows) → lookup (bytes_eq p) (reverse rows) ≡ lookup (bytes_eq p) rows
   found_turned [] d = refl
   found_turned (r ∷ rows) d =
       ap (lookup (bytes_eq p)) (reverse-append (r ∷ []) rows)
@@ -68,7 +69,7 @@ module _ (p : List ℕ) where
       ]
 
   -- after others
-  found_later : (rows more : Rows) (s : List ℕ) → AllDiffer (keys (rows ++ more)) → lookup (bytes_eq p) more ≡ Some s
+  found_later : (rows more : TextPairs) (s : List ℕ) → AllDiffer (keys (rows ++ more)) → lookup (bytes_eq p) more ≡ Some s
       → lookup (bytes_eq p) (rows ++ more) ≡ Some s
   found_later [] more s d found = found
   found_later (r ∷ rows) more s d found =
@@ -83,16 +84,16 @@ module _ (p : List ℕ) where
 abbrev turn : List ℕ × List ℕ → List ℕ × List ℕ
 turn row = (row.1, row.0)
 
-keys_are : (rows : Rows) → map (λ (b : Binding). b.prefix) (map row_binding rows) ≡ keys (map turn rows)
+keys_are : (rows : TextPairs) → map (λ (b : Binding). b.prefix) (map row_binding rows) ≡ keys (map turn rows)
 keys_are [] = refl
 keys_are (r ∷ rows) = ap (λ (l : List (List ℕ)). r.1 ∷ l) (keys_are rows)
 
 numbered_are : (n : ℕ) (spaces : List (List ℕ)) → map turn (numbered_prefix_rows 0x66 n spaces) ≡ numbered_rows n spaces
 numbered_are n [] = refl
-numbered_are n (space ∷ spaces) = ap (λ (l : Rows). (numbered_prefix n, space) ∷ l) (numbered_are (n + 1) spaces)
+numbered_are n (space ∷ spaces) = ap (λ (l : TextPairs). (numbered_prefix n, space) ∷ l) (numbered_are (n + 1) spaces)
 
 module _ (own spaces : List (List ℕ)) where
-  abbrev pub its_rows : Rows
+  abbrev pub its_rows : TextPairs
   its_rows = numbered_prefix_rows 0x6E 1 own ++ numbered_prefix_rows 0x66 1 spaces
 
   its_differ : AllDiffer (keys (map turn its_rows))
@@ -106,11 +107,11 @@ module _ (own spaces : List (List ℕ)) where
   found_there p s found =
       let parts : map turn its_rows ≡ map turn (numbered_prefix_rows 0x6E 1 own) ++ numbered_rows 1 spaces =
       map-append turn (numbered_prefix_rows 0x6E 1 own) (numbered_prefix_rows 0x66 1 spaces)
-      ∙ ap (λ (l : Rows). map turn (numbered_prefix_rows 0x6E 1 own) ++ l) (numbered_are 1 spaces) in
+      ∙ ap (λ (l : TextPairs). map turn (numbered_prefix_rows 0x6E 1 own) ++ l) (numbered_are 1 spaces) in
       found_turned p (map turn its_rows) its_differ
       ∙ ap (lookup (bytes_eq p)) parts
       ∙ found_later p (map turn (numbered_prefix_rows 0x6E 1 own)) (numbered_rows 1 spaces) s
-      (subst (λ (rows : Rows). AllDiffer (keys rows)) parts its_differ) found
+      (subst (λ (rows : TextPairs). AllDiffer (keys rows)) parts its_differ) found
 
   -- ---- (3) the scope
 
@@ -118,7 +119,7 @@ module _ (own spaces : List (List ℕ)) where
   root_starts [] = refl
   root_starts (index ∷ path) = refl
 
-  all_start : (path : List ℕ) (rows : Rows)
+  all_start : (path : List ℕ) (rows : TextPairs)
       → AllByRecursion (λ (d : Declared). starts_with ◌==◌ path d.path ≡ true) (root_declarations rows)
   all_start path [] = tt
   all_start path (r ∷ rows) = (root_starts path, all_start path rows)
@@ -126,12 +127,12 @@ module _ (own spaces : List (List ℕ)) where
   told_last : (bs : List Binding) (b : Binding) → map row_of_binding (bs ++ b ∷ []) ≡ map row_of_binding bs ++ row_of_binding b ∷ []
   told_last bs b = map-append row_of_binding bs (b ∷ [])
 
-  told_turned : (rows : Rows) → map row_of_binding (reverse (map binding_told (root_declarations rows))) ≡ reverse (map turn rows)
+  told_turned : (rows : TextPairs) → map row_of_binding (reverse (map binding_told (root_declarations rows))) ≡ reverse (map turn rows)
   told_turned [] = refl
   told_turned (r ∷ rows) =
       ap (map row_of_binding) (reverse-append (row_binding r ∷ []) (map binding_told (root_declarations rows)))
       ∙ told_last (reverse (map binding_told (root_declarations rows))) (row_binding r)
-      ∙ ap (λ (l : Rows). l ++ turn r ∷ []) (told_turned rows)
+      ∙ ap (λ (l : TextPairs). l ++ turn r ∷ []) (told_turned rows)
       ∙ sym (reverse-append (turn r ∷ []) (map turn rows))
 
   rows_there : (path inner : List ℕ) → (scopes_by (root_declarations its_rows) path inner).rows ≡ reverse (map turn its_rows)
