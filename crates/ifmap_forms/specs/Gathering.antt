@@ -18,7 +18,7 @@ use Rattle.ifmap_ident.specs.declared.codes.Code.TheVariants.{Failure}
 use Rattle.ifmap_ident.specs.declared.identifiers.Identifier.{Identifier}
 use Rattle.ifmap_forms.specs.declared.errors.FormError.{FormError}
 use Rattle.ifmap_forms.specs.declared.errors.FormError.TheVariants.{Named, NoMemory}
-use Rattle.ifmap_forms.specs.Answers.{IsCheckRefusal}
+use Rattle.ifmap_forms.specs.Answers.{IsChecked, IsCheckRefusal}
 use Rattle.ifmap_forms.specs.Checks.{Check, check_then, need, pass}
 use Rattle.ifmap_forms.specs.Items.{identifier_check, identifiers_check, may_follow}
 use Rattle.ifmap_forms.specs.Tables.{Part, each_element, parts_in}
@@ -243,6 +243,12 @@ module _ {X : Type 0} (one : Element → Check X) (child : Child) where
     pub part_is_text : list_all is_white text ≡ false → part_check one (out-Child child) (one_refused Failure)
     part_is_text solid = subst (λ (part : Part). part_check one part (one_refused Failure)) (sym text_opened)
         (subst (λ (b : Bool). need b Failure (pass {X = Option X} None) (one_refused Failure)) (sym solid) refl)
+
+    -- the answer to the text is that to the child
+    pub text_answers_part : (r : Result (Option X) FormError)
+        → IsChecked {X = Option X} (need (list_all is_white text) Failure (pass {X = Option X} None)) r
+        → IsChecked (part_check one (out-Child child)) r
+    text_answers_part r f = subst (λ (part : Part). IsChecked (part_check one part) r) (sym text_opened) f
 
 -- ---- the turns of a loop along children
 

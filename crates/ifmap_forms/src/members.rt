@@ -9,7 +9,7 @@ ghost use Rattle.ifmap_forms.specs.Tables.{members_check, parts_in};
 
 use crate::errors::FormError;
 use crate::gathering::keep_found;
-use ifmap_elem::white_space::is_white_alone;
+use crate::parts::pass_over_text;
 use ifmap_elem::{Child, Element};
 use ifmap_ident::Code;
 use std::alloc::Global;
@@ -50,12 +50,6 @@ fn read_child<R: MemberReader>(alloc: Global, child: Child) -> Result<Option<R::
 {
     match child {
         Child::Element(element) => Ok(Some(R::read_member(alloc, element)?)),
-        Child::Text(text) => {
-            if is_white_alone(text.as_bytes()) {
-                Ok(None)
-            } else {
-                Err(FormError::Named(Code::Failure))
-            }
-        }
+        Child::Text(text) => pass_over_text(&text),
     }
 }
