@@ -10,7 +10,7 @@ ghost use Rattle.ifmap_forms.specs.Tables.{parts_in};
 
 use crate::errors::FormError;
 use crate::gathering::{keep_found, only_member};
-use ifmap_elem::white_space::is_white_alone;
+use crate::parts::pass_over_text;
 use ifmap_elem::{Child, Element};
 use ifmap_ident::{Code, IdentError, Identifier, Item};
 use std::alloc::Global;
@@ -90,13 +90,7 @@ fn next_identifier(
 {
     match child {
         Child::Element(element) => Ok(Some(following_identifier(alloc, most, before, element)?)),
-        Child::Text(text) => {
-            if is_white_alone(text.as_bytes()) {
-                Ok(None)
-            } else {
-                Err(FormError::Named(Code::Failure))
-            }
-        }
+        Child::Text(text) => pass_over_text(text),
     }
 }
 

@@ -9,11 +9,10 @@ ghost use Rattle.ifmap_requests.specs.RequestForms.{delete_form, delete_from_for
 
 use crate::metadata::read_published;
 use crate::publish_ops::PublishOp;
-use ifmap_elem::white_space::is_white_alone;
 use ifmap_elem::{Child, Element, Many, Name};
 use ifmap_forms::gathering::keep_found;
 use ifmap_forms::identifiers::read_item;
-use ifmap_forms::parts::has_only;
+use ifmap_forms::parts::{has_only, pass_over_text};
 use ifmap_forms::values::{read_filter, read_lifetime};
 use ifmap_forms::{FormError, MessagePlace};
 use ifmap_ident::Code;
@@ -54,13 +53,7 @@ fn next_op(
             let place = place.of_child(index)?;
             Ok(Some(read_op(alloc, &place, element)?))
         }
-        Child::Text(text) => {
-            if is_white_alone(text.as_bytes()) {
-                Ok(None)
-            } else {
-                Err(FormError::Named(Code::Failure))
-            }
-        }
+        Child::Text(text) => pass_over_text(&text),
     }
 }
 

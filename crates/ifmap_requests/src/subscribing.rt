@@ -9,10 +9,9 @@ ghost use Rattle.ifmap_requests.specs.RequestForms.{end_form, end_from_form, sub
 
 use crate::requests::SubscribeOp;
 use crate::searching::read_search;
-use ifmap_elem::white_space::is_white_alone;
 use ifmap_elem::{Child, Element, Many};
 use ifmap_forms::gathering::keep_found;
-use ifmap_forms::parts::{are_blank, has_only};
+use ifmap_forms::parts::{are_blank, has_only, pass_over_text};
 use ifmap_forms::values::read_name;
 use ifmap_forms::{FormError, MessagePlace};
 use ifmap_ident::Code;
@@ -51,13 +50,7 @@ fn next_op(
             let place = place.of_child(index)?;
             Ok(Some(read_op(alloc, &place, element)?))
         }
-        Child::Text(text) => {
-            if is_white_alone(text.as_bytes()) {
-                Ok(None)
-            } else {
-                Err(FormError::Named(Code::Failure))
-            }
-        }
+        Child::Text(text) => pass_over_text(text),
     }
 }
 

@@ -1,3 +1,5 @@
+use Rattle.ifmap_forms.specs.Gathering.{text_answers_part}
+use Rattle.ifmap_forms.specs.Scopes.{scopes_below, scopes_by}
 use Rattle.ifmap_requests.specs.RequestForms.{subscribe_op_check}
 use Rattle.ifmap_requests.proofs.PlaceLaws.{child_found, child_refused}
 use Rattle.ifmap_requests.proofs.subscribing.next_op.Goals as goal
@@ -18,3 +20,9 @@ returns-in_ok-read_op-in-Element c =
     child_found subscribe_op_check place.declared.now there.place.declared.now place.path.now there.place.path.now there.place.child
     c.args.index there.ensures.declared there.ensures.path there.ensures.child c.args.child.now c.in-Element.element c.in-Element.is
     c.in_ok-read_op-in-Element.field-0 c.in_ok-read_op-in-Element.ensures
+
+pub returns-in-Text : goal.returns-in-Text
+returns-in-Text c =
+    let place = c.args.place.now in
+    text_answers_part (subscribe_op_check (scopes_below (scopes_by place.declared.now place.path.now) c.args.index)) c.args.child.now
+    c.in-Text.text c.in-Text.is c.pass_over_text.result c.pass_over_text.ensures.answer
