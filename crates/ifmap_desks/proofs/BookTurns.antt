@@ -3,7 +3,7 @@ use Rattle.std.proofs.Common.{◌≡◌, ◌↔◌, refl, sym, ap, subst, ℕ, �
 use Rattle.std.proofs.lemmas.Bool.{cases_Bool}
 use Rattle.std.proofs.lemmas.Bool.Decides.{nat_tests}
 use Rattle.ifmap_core.specs.EmptyPolls.{WouldHold}
-use Rattle.ifmap_desks.specs.Answers.{plain_asked}
+use Rattle.ifmap_desks.specs.Answers.{plain_answer}
 use Rattle.ifmap_desks.specs.Asking.{IsTurn}
 use Rattle.ifmap_desks.specs.Calls.{calls_since, calls_if_known}
 use Rattle.ifmap_desks.specs.Holding.{would_hold}
@@ -39,7 +39,7 @@ module _ (holding : (state : State) (event : Event) → would_hold state event �
     (fitting : (state : State) (event : Event) → FitsAnswer event (step state event).1) where
   -- the answer is one that the event can have
   pub fits : (b b' : CoreBook) (number : ℕ) (event : FitEvent) (given : Asked FitEvent Answer) → IsTurn b b' number event given
-      → FitsAsked event.event (plain_asked given)
+      → FitsAsked event.event (plain_answer given)
   fits b b' number event (Done at r) t =
       subst (FitsAnswer event.event) (sym t.done.2.reply_is) (fitting b.machine.core event.event)
   fits b b' number event (Held at back) t = (

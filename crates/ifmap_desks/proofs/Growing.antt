@@ -1,7 +1,7 @@
 -- What a turn adds to what was said since a place.
 use Rattle.std.proofs.Common.{◌≡◌, sym, ap, ◌∙◌, ℕ, ◌+◌, ◌-◌, ◌≤◌, [], ◌∷◌, ◌++◌, length, take, drop, arith, append-nil, length-append, length-drop, take-add, drop-drop}
 use Rattle.std.proofs.lemmas.List.{take-append-le, drop-append-le, take-append-drop, nil_from_length}
-use Rattle.ifmap_desks.specs.Answers.{plain_asked}
+use Rattle.ifmap_desks.specs.Answers.{plain_answer}
 use Rattle.ifmap_desks.specs.Calls.{Log, calls_from, calls_since}
 use Rattle.ifmap_desks.specs.Asking.{IsTurn}
 use Rattle.ifmap_desks.specs.Machines.{CoreBook, core_next, core_reply}
@@ -80,7 +80,7 @@ module _ (place : ℕ) (b b' : CoreBook) (c : CarriesOn core_next (sight_of b) (
       ∙ ap (λ (q : Answer). calls_since place b ++ (event.event, q) ∷ []) (sym enters.reply_is)
 
   pub adds : (number : ℕ) (event : FitEvent) (given : Asked FitEvent Answer) → IsTurn b b' number event given
-      → calls_since place b' ≡ calls_since place b ++ call_of event.event (plain_asked given)
+      → calls_since place b' ≡ calls_since place b ++ call_of event.event (plain_answer given)
   adds number event (Done at r) t = one_said number at event r t.done.2
   adds number event (Held at back) t = ap (λ (x : CoreBook). calls_since place x) t.held.4 ∙ sym (append-nil (calls_since place b))
   adds number event (Spent entries back) t = ap (λ (x : CoreBook). calls_since place x) t.spent.3 ∙ sym (append-nil (calls_since place b))

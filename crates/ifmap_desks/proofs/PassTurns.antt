@@ -2,7 +2,7 @@
 use Rattle.std.proofs.Common.{◌≡◌, ◌↔◌, refl, sym, ap, subst, ◌∙◌, ℕ, true, [], ◌∷◌, append-nil, map, Some}
 use Rattle.std.proofs.lemmas.List.{map-append}
 use Rattle.ifmap_core.specs.EmptyPolls.{WouldHold}
-use Rattle.ifmap_desks.specs.Answers.{plain_asked}
+use Rattle.ifmap_desks.specs.Answers.{plain_answer}
 use Rattle.ifmap_desks.specs.Calls.{plain_call}
 use Rattle.ifmap_desks.specs.Holding.{would_hold}
 use Rattle.ifmap_desks.specs.Machines.{CoreView, core_holds, core_next, core_reply}
@@ -20,7 +20,7 @@ use Rattle.ifmap_dialogue.specs.ifmap_machine.Step.{step}
 
 module _ (v w : CoreView) (number : ℕ) (event : FitEvent) where
   pub gains : (given : Asked FitEvent Answer) → AnsweredFromHistory core_next core_holds core_reply v w number event given
-      → Gains (Some (map plain_call v.said)) (Some (map plain_call w.said)) (call_of event.event (plain_asked given))
+      → Gains (Some (map plain_call v.said)) (Some (map plain_call w.said)) (call_of event.event (plain_answer given))
   gains (Done place r) a =
       (map plain_call v.said, refl, ap (map plain_call) a.said ∙ map-append plain_call v.said ((event, r) ∷ []))
   gains (Held place back) a = (map plain_call v.said, refl, ap (map plain_call) a.4.said ∙ sym (append-nil (map plain_call v.said)))
@@ -30,7 +30,7 @@ module _ (v w : CoreView) (number : ℕ) (event : FitEvent) where
   module _ (holding : (state : State) (e : Event) → would_hold state e ≡ true ↔ WouldHold state e)
       (fitting : (state : State) (e : Event) → FitsAnswer e (step state e).1) where
     pub fits : (given : Asked FitEvent Answer) → AnsweredFromHistory core_next core_holds core_reply v w number event given
-        → FitsAsked event.event (plain_asked given)
+        → FitsAsked event.event (plain_answer given)
     fits (Done place r) a =
         subst (FitsAnswer event.event) (sym a.reply_is) (fitting (run core_next v.terms.opening.value a.before).core event.event)
     fits (Held place back) a = (

@@ -1,6 +1,6 @@
 -- What a pass said stays what the machine answered, and a spent hall stays spent.
 use Rattle.std.proofs.Common.{◌≡◌, sym, ap, subst, ◌∙◌, ℕ, ◌+◌, ◌-◌, ◌^◌, ◌<◌, List, [], ◌∷◌, ◌++◌, length, append_assoc, length-append, arith}
-use Rattle.ifmap_desks.specs.Answers.{Counted, plain_asked}
+use Rattle.ifmap_desks.specs.Answers.{Counted, plain_answer}
 use Rattle.ifmap_desks.specs.Calls.{Log}
 use Rattle.ifmap_desks.specs.Machines.{CoreView, core_holds, core_next, core_reply}
 use Rattle.ifmap_desks.specs.Recalls.{AreCalls, IsCallOfEntry, Recalls}
@@ -93,7 +93,7 @@ module _ (v w : CoreView) (took : TookATurn v w) where
     -- where an answer was `Spent`, the history has 2^64 - 1 entries
     pub used_up : (given : Asked FitEvent Answer) (old new : AnswerCounts)
         → AnsweredFromHistory core_next core_holds core_reply v w number event given
-        → Counted (plain_asked given) old new → (0 < old.spent → length v.history.log ≡ 2 ^ 64 - 1)
+        → Counted (plain_answer given) old new → (0 < old.spent → length v.history.log ≡ 2 ^ 64 - 1)
         → 0 < new.spent → length w.history.log ≡ 2 ^ 64 - 1
     used_up (Done place reply) old new a counted before some =
         let e : new.spent ≡ old.spent = ap (λ (x : AnswerCounts). x.spent) counted in

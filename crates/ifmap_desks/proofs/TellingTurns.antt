@@ -3,7 +3,7 @@ use Rattle.std.proofs.Common.{◌≡◌, sym, ap, subst, ◌∙◌, ℕ, List, [
 use Rattle.std.proofs.lemmas.List.Concat.{flat_map-cons}
 use Rattle.std.proofs.lemmas.List.Elements.{All-nil, All-push}
 use Rattle.std.specs.Prelude.{count_by}
-use Rattle.ifmap_desks.specs.Answers.{Counted, plain_asked}
+use Rattle.ifmap_desks.specs.Answers.{Counted, plain_answer}
 use Rattle.ifmap_desks.specs.declared.answers.AnswerCounts.{AnswerCounts}
 use Rattle.ifmap_desks.specs.declared.events.FitEvent.{FitEvent}
 use Rattle.ifmap_dialogue.specs.Desks.{Call, CountsOn, FitsAsked, Gains, CountRises, DeskTakesTurns, Turn, call_of, calls, is_held_back, is_spent}
@@ -68,9 +68,9 @@ module _ {H : Type 0} (said later : Option (List Call)) (turns taken : Option �
 
     -- the same, where the event was handed on with the proof that it is fit
     pub tells_plain : (event : Event) (fit : FitEvent) → fit.event ≡ event → (given : Asked FitEvent Answer) (answer : Asked Event Answer)
-        → answer ≡ plain_asked given → Gains said later (call_of fit.event (plain_asked given)) → CountsOn turns taken 1
+        → answer ≡ plain_answer given → Gains said later (call_of fit.event (plain_answer given)) → CountsOn turns taken 1
         → Counted answer old new
-        → same ≡ home → kept ≡ loan → FitsAsked fit.event (plain_asked given)
+        → same ≡ home → kept ≡ loan → FitsAsked fit.event (plain_answer given)
         → DeskTakesTurns {H = H} (record { said = said; turns = turns; held = old.held; spent = old.spent; home = home; loan = loan })
         (record { said = later; turns = taken; held = new.held; spent = new.spent; home = same; loan = kept })
         (record { event = event; asked = answer } ∷ [])

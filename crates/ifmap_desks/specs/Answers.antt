@@ -9,11 +9,11 @@ use Rattle.ifmap_dialogue.specs.ifmap_machine.Events.{Event}
 use Rattle.ifmap_dialogue.specs.ifmap_io.Causes.{count_after_one}
 
 -- the answer with the event as it was asked
-abbrev pub plain_asked : Asked FitEvent Answer → Asked Event Answer
-plain_asked (Done place answer) = Done place answer
-plain_asked (Held place event) = Held place event.event
-plain_asked (Spent entries event) = Spent entries event.event
-plain_asked (NoMemory event) = NoMemory event.event
+abbrev pub plain_answer : Asked FitEvent Answer → Asked Event Answer
+plain_answer (Done place answer) = Done place answer
+plain_answer (Held place event) = Held place event.event
+plain_answer (Spent entries event) = Spent entries event.event
+plain_answer (NoMemory event) = NoMemory event.event
 
 -- the counts with this answer
 abbrev pub Counted : Asked Event Answer → AnswerCounts → AnswerCounts → Type 0

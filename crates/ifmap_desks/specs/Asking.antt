@@ -1,6 +1,6 @@
 -- What an answer at a desk says of its book, or of the history of its hall.
 use Rattle.std.specs.Prelude.{◌≡◌, ℕ, ◌-◌, ◌^◌, ◌<◌, true, false, map, None, Some}
-use Rattle.ifmap_desks.specs.Answers.{plain_asked}
+use Rattle.ifmap_desks.specs.Answers.{plain_answer}
 use Rattle.ifmap_desks.specs.Calls.{plain_call, calls_if_known}
 use Rattle.ifmap_desks.specs.Machines.{CoreBook, CoreView, core_holds, core_next, core_reply, core_weight}
 use Rattle.ifmap_desks.specs.declared.book_desk.BookDesk.{BookDesk}
@@ -38,7 +38,7 @@ pub record AnsweredByBook (old new : CoreBook) (pass : ℕ) (event : Event) (ans
   pub asked : FitEvent
   pub is_event : asked.event ≡ event
   pub given : Asked FitEvent Answer
-  pub is_plain : answer ≡ plain_asked given
+  pub is_plain : answer ≡ plain_answer given
   pub turn : IsTurn old new pass asked given
 
 -- a desk handed on what the hall answered: what it says of the whole history that the pass has seen, and of the base and what follows it
@@ -46,7 +46,7 @@ pub record AnsweredByHall (v w : CoreView) (number : ℕ) (event : Event) (answe
   pub asked : FitEvent
   pub is_event : asked.event ≡ event
   pub given : Asked FitEvent Answer
-  pub is_plain : answer ≡ plain_asked given
+  pub is_plain : answer ≡ plain_answer given
   pub answered : AnsweredFromHistory core_next core_holds core_reply v w number asked given
   pub from_base : AnsweredFromBase core_next core_holds core_reply (sight_by core_next w) number asked given
 

@@ -1,6 +1,6 @@
 //! Answers of a book as a desk hands them on, and how many there were.
 ghost use Rattle.std.specs.Prelude.{◌≡◌};
-ghost use Rattle.ifmap_desks.specs.Answers.{plain_asked, Counted};
+ghost use Rattle.ifmap_desks.specs.Answers.{plain_answer, Counted};
 
 use crate::events::FitEvent;
 use ifmap_dialogue::{Answer, Event};
@@ -36,8 +36,8 @@ impl AnswerCounts {
 }
 
 // The answer with the event as it was asked.
-pub(crate) fn plain_asked(asked: Asked<FitEvent, Answer>) -> Asked<Event, Answer>
-    ensures { result ≡ plain_asked asked }
+pub(crate) fn plain_answer(asked: Asked<FitEvent, Answer>) -> Asked<Event, Answer>
+    ensures { result ≡ plain_answer asked }
 {
     match asked {
         Asked::Done { place, reply } => Asked::Done { place, reply },

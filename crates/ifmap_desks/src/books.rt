@@ -4,7 +4,7 @@ ghost use Rattle.ifmap_desks.specs.Asking.{AnsweredByBook, book_at, book_seen, p
 ghost use Rattle.ifmap_desks.specs.Machines.{IsCoreBook};
 ghost use Rattle.ifmap_dialogue.specs.Desks.{DeskTakesTurns, greatest_weight, weight};
 
-use crate::answers::{AnswerCounts, plain_asked};
+use crate::answers::{AnswerCounts, plain_answer};
 use crate::book_desk::BookDesk;
 use crate::events::FitEvent;
 use crate::laws::{answers_fit_events, holding_is_exact};
@@ -64,7 +64,7 @@ impl Desk for BookDesk {
         let asked = self
             .book
             .turn(self.alloc, self.pass, FitEvent::from_event(event));
-        let answer = plain_asked(asked);
+        let answer = plain_answer(asked);
         self.counts.count(&answer);
         answer
     }

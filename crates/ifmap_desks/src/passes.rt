@@ -10,7 +10,7 @@ ghost use Rattle.ifmap_hall.specs.Passes.{IsOf, view_of};
 ghost use Rattle.ifmap_hall.specs.Sights.{CarriesOn};
 ghost use Rattle.ifmap_hall.specs.Views.{sight_by};
 
-use crate::answers::{AnswerCounts, plain_asked};
+use crate::answers::{AnswerCounts, plain_answer};
 use crate::events::FitEvent;
 use crate::laws::{answers_fit_events, clients_agree_in_every_log, holding_is_exact};
 use crate::machine::CoreMachine;
@@ -72,7 +72,7 @@ impl<'a, R: Wait> Desk for PassDesk<'a, R> {
         holding_is_exact();
         clients_agree_in_every_log();
         let asked = self.hall.ask(self.rt, self.alloc, self.pass, FitEvent::from_event(event));
-        let answer = plain_asked(asked);
+        let answer = plain_answer(asked);
         self.counts.count(&answer);
         answer
     }

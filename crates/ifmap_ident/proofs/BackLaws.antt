@@ -32,7 +32,7 @@ use Rattle.ifmap_ident.specs.Kinds.{allowed_attributes, identity_type_name, kind
 use Rattle.ifmap_ident.specs.Parts.{has_only, is_blank_inside, is_solid, value_of}
 use Rattle.ifmap_ident.proofs.DotLaws.{domain_again}
 use Rattle.ifmap_ident.proofs.SpelledLaws.{spelled_again}
-use Rattle.ifmap_ident.specs.Meaning.{unless_empty}
+use Rattle.ifmap_ident.specs.Meaning.{text_unless_empty}
 use Rattle.ifmap_elem.specs.laws.ArrangedLaws.{out_element}
 
 -- ---- what is kept again
@@ -45,12 +45,12 @@ module _ (fits : (bytes : List ℕ) (r : Reading) → Spells bytes r → IsFit r
   kept_again Spelled text name kept = spelled_again fits text name kept
 
   -- the definition in the element that is made: none of an empty one
-  some_again : (other : List ℕ) → other ≢ [] → unless_empty other ≡ Some other
+  some_again : (other : List ℕ) → other ≢ [] → text_unless_empty other ≡ Some other
   some_again [] some = absurd (some refl)
   some_again (b ∷ bs) some = refl
 
   definition_again : (kind : IdentityType) (given : Option (List ℕ)) (other : List ℕ) → IsDefinition kind given other
-      → IsDefinition kind (unless_empty other) other
+      → IsDefinition kind (text_unless_empty other) other
   definition_again types.Other given other d = (some_again other d.1, d.1)
   definition_again types.AikName given other d = d
   definition_again types.DistinguishedName given other d = d
@@ -88,7 +88,7 @@ module _ (fits : (bytes : List ℕ) (r : Reading) → Spells bytes r → IsFit r
   module _ (made : Element) (blank : IsTrue (is_blank_inside made)) where
     identity_in : (e : Element) (name : List ℕ) (kind : IdentityType) (other domain : List ℕ) → IsIdentity e name kind other domain
         → value_of (codes "type") made ≡ Some (identity_type_name kind)
-        → value_of (codes "other-type-definition") made ≡ unless_empty other → value_of (codes "name") made ≡ Some name
+        → value_of (codes "other-type-definition") made ≡ text_unless_empty other → value_of (codes "name") made ≡ Some name
         → domain ≡ domain_of made → IsIdentity made name kind other domain
     identity_in e name kind other domain p kind_is given name_is domain_is = record {
       children = blank;

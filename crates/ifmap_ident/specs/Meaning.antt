@@ -33,9 +33,9 @@ IsFound Passes (Ok (Some text)) = Passes text
 IsFound Passes (Ok None) = (text : List ℕ) → Passes text → ⊥
 IsFound Passes (Err e) = Unit {0}
 
-abbrev pub unless_empty : List ℕ → Option (List ℕ)
-unless_empty [] = None
-unless_empty (b ∷ bs) = Some (b ∷ bs)
+abbrev pub text_unless_empty : List ℕ → Option (List ℕ)
+text_unless_empty [] = None
+text_unless_empty (b ∷ bs) = Some (b ∷ bs)
 
 -- the version of an address as it is written in the attribute `type`
 abbrev pub version_name : Version → List ℕ

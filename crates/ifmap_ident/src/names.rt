@@ -1,7 +1,7 @@
 //! The names of identities, in the form in which they are kept.
 ghost use Rattle.std.specs.Prelude.{◌≡◌, ◌≢◌, [], IfOk};
 ghost use Rattle.ifmap_ident.specs.IdentityNames.{IsKeptName, IsSpelledName, domain_name, without_last_dots};
-ghost use Rattle.ifmap_ident.specs.Meaning.{IsFound, unless_empty};
+ghost use Rattle.ifmap_ident.specs.Meaning.{IsFound, text_unless_empty};
 ghost use Rattle.ifmap_elem.specs.Canonical.{canonical_bytes};
 ghost use Rattle.ifmap_elem.specs.Fit.{IsFit};
 
@@ -32,14 +32,14 @@ pub(crate) fn keep_name(
     ensures { IsFound (λ name. IsKeptName form text.now name × (name ≢ [])) result }
 {
     match form {
-        NameForm::Literal => Ok(unless_empty(text.copy(alloc)?)),
-        NameForm::Domain => Ok(unless_empty(domain_name(alloc, text)?)),
+        NameForm::Literal => Ok(text_unless_empty(text.copy(alloc)?)),
+        NameForm::Domain => Ok(text_unless_empty(domain_name(alloc, text)?)),
         NameForm::Spelled => spelled_name(alloc, text),
     }
 }
 
-fn unless_empty(text: Text) -> Option<Text>
-    ensures { result ≡ unless_empty text }
+fn text_unless_empty(text: Text) -> Option<Text>
+    ensures { result ≡ text_unless_empty text }
 {
     if text.is_empty() {
         return None;

@@ -86,11 +86,11 @@ fn read_run_parts(alloc: Global, children: Vec<Child>) -> Result<Run, FormError>
 {
     let listed = read_listed::<ElementReader>(alloc, children)?;
     let item = SharedItem::new(alloc, listed.item)?;
-    let elements = or_none(alloc, listed.list);
+    let elements = elements_or_none(alloc, listed.list);
     Ok(Run { item, elements })
 }
 
-fn or_none(alloc: Global, list: Option<Many<SharedElement>>) -> Many<SharedElement>
+fn elements_or_none(alloc: Global, list: Option<Many<SharedElement>>) -> Many<SharedElement>
     ensures { result ≡ elements_or_none list }
 {
     match list {

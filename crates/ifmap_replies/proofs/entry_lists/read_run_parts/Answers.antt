@@ -23,4 +23,5 @@ returns-in_err-listed c =
 pub returns : goal.returns
 returns c =
     listed_makes element_check run_of (parts_in c.args.children.items) c.in_ok-listed.listed c.in_ok-listed.ensures
-    (Ok (run_on c.in_ok-item.item c.or_none-elements.result)) (λ i. Ok (run_on (c.in_ok-item.ensures i) (c.or_none-elements.ensures i)))
+    (Ok (run_on c.in_ok-item.item c.elements_or_none-elements.result))
+    (λ i. Ok (run_on (c.in_ok-item.ensures i) (c.elements_or_none-elements.ensures i)))

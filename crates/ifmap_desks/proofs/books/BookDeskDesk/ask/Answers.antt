@@ -1,6 +1,6 @@
 -- What the turn of the book says is what the desk tells.
 use Rattle.std.proofs.Common.{None, refl}
-use Rattle.ifmap_desks.specs.Answers.{plain_asked}
+use Rattle.ifmap_desks.specs.Answers.{plain_answer}
 use Rattle.ifmap_desks.specs.Asking.{IsTurn}
 use Rattle.ifmap_desks.specs.Calls.{calls_if_known}
 use Rattle.ifmap_desks.proofs.BookTurns.{fits, gains}
@@ -28,8 +28,8 @@ returns c =
     record {
       tells = tells_plain (calls_if_known desk.since b)
           (calls_if_known desk.since b') None None desk.counts c.count.new.self tt tt 0 0 c.args.event fit
-          c.from_event.ensures given c.plain_asked-answer.result c.plain_asked-answer.ensures
-          (gains desk.since b b' fit.event (plain_asked given) e.carries.from
+          c.from_event.ensures given c.plain_answer-answer.result c.plain_answer-answer.ensures
+          (gains desk.since b b' fit.event (plain_answer given) e.carries.from
           (λ near. adds desk.since b b' e.carries near desk.since_then desk.in_order.state desk.pass fit given turn))
           tt c.count.ensures refl refl (fits c.holding_is_exact.ensures c.answers_fit_events.ensures b b' desk.pass fit given turn);
       number = refl;
@@ -37,7 +37,7 @@ returns c =
         asked = fit;
         is_event = c.from_event.ensures;
         given = given;
-        is_plain = c.plain_asked-answer.ensures;
+        is_plain = c.plain_answer-answer.ensures;
         turn = turn;
       };
     }

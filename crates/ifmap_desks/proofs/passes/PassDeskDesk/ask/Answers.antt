@@ -28,7 +28,7 @@ returns g c =
     record {
       tells = tells_plain (Some (map plain_call v.said)) (Some (map plain_call w.said)) (Some v.turns) (Some w.turns) desk.counts
           c.count.new.self desk.hall.now desk.hall.now desk.pass.ghost_name desk.pass.ghost_name c.args.event fit c.from_event.ensures given
-          c.plain_asked-answer.result c.plain_asked-answer.ensures (gains v w (pass_number desk.pass.now) fit given e.answered)
+          c.plain_answer-answer.result c.plain_answer-answer.ensures (gains v w (pass_number desk.pass.now) fit given e.answered)
           (v.turns, refl, e.took.turns) c.count.ensures refl refl
           (fits v w (pass_number desk.pass.now) fit c.holding_is_exact.ensures c.answers_fit_events.ensures given e.answered);
       number = e.number;
@@ -39,7 +39,7 @@ returns g c =
         asked = fit;
         is_event = c.from_event.ensures;
         given = given;
-        is_plain = c.plain_asked-answer.ensures;
+        is_plain = c.plain_answer-answer.ensures;
         answered = e.answered;
         from_base = e.from_base;
       };
@@ -67,5 +67,5 @@ invariant_of-self-clause-used_up g c =
     used_up (view_of c.args.self.now.pass.now) (view_of c.ask-asked.new.pass) e.took
     (pass_number c.args.self.now.pass.now) c.from_event.result
     c.ask-asked.result c.args.self.now.counts c.count.new.self e.answered
-    (subst (λ (a : Asked Event Answer). Counted a c.args.self.now.counts c.count.new.self) c.plain_asked-answer.ensures c.count.ensures)
+    (subst (λ (a : Asked Event Answer). Counted a c.args.self.now.counts c.count.new.self) c.plain_answer-answer.ensures c.count.ensures)
     c.args.self.now.used_up
