@@ -81,7 +81,7 @@ told_within {ready} {wanted} {old} {mid} {to} out tells steady a before from til
 pub ended_none : (serial : ℕ) (state : State) (n : ℕ) → IsEndedWithin (serial ∷ []) state n n
 ended_none serial state n = (n, omega arith, inl (omega arith))
 
--- its subscriptions are marked, and what was to stay as long as it is taken away
+-- its subscriptions are flagged, and what was to stay as long as it is taken away
 pub ended_within : (a : Asking) (parts : Parts) (before marked : Pending) (serial : ℕ) (serials : List ℕ) (from to : ℕ)
     → serials ≡ serial ∷ []
     → map standing_of (kept_items marked.gone.items parts.standing.items)

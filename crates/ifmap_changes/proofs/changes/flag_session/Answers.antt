@@ -1,6 +1,6 @@
 use Rattle.std.proofs.Common.{◌≢◌, subst, sym}
 use Rattle.std.specs.List.Sorted.{IsStrictlySortedBy}
-use Rattle.ifmap_changes.proofs.Marking.{none_left}
+use Rattle.ifmap_changes.proofs.Flagging.{none_left}
 use Rattle.ifmap_changes.proofs.changes.flag_session.Goals as goal
 use Rattle.ifmap_tellings.specs.ifmap_standing.declared.standing.Standing.{Standing}
 use Rattle.ifmap_tellings.specs.Tellings.{AllKept}

@@ -1,5 +1,5 @@
 use Rattle.std.proofs.Common.{◌≡◌, false, ap, length, map, slice_get, ◌∙◌, sym, subst}
-use Rattle.ifmap_changes.proofs.Marking.{as_many, is_of, left_without, none_of_them, still_set}
+use Rattle.ifmap_changes.proofs.Flagging.{as_many, is_of, left_without, none_of_them, still_set}
 use Rattle.ifmap_changes.proofs.changes.flag_sessions.Goals as goal
 use Rattle.ifmap_tellings.specs.ifmap_standing.declared.standing.Standing.{Standing}
 use Rattle.ifmap_tellings.specs.ifmap_standing.Standing.{standing_of}

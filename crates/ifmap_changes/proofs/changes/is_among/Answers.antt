@@ -1,5 +1,5 @@
 use Rattle.std.proofs.Common.{◌∙◌}
-use Rattle.ifmap_changes.proofs.Marking.{among}
+use Rattle.ifmap_changes.proofs.Flagging.{among}
 use Rattle.ifmap_changes.proofs.changes.is_among.Goals as goal
 
 pub returns : goal.returns

@@ -1,5 +1,5 @@
 use Rattle.std.proofs.Common.{◌≡◌}
-use Rattle.ifmap_changes.proofs.Marking.{gone_first}
+use Rattle.ifmap_changes.proofs.Flagging.{gone_first}
 use Rattle.ifmap_changes.proofs.changes.set_flags.Given as goal
 
 abbrev pub invariant-loop-at : goal.invariant-loop-at

@@ -1,6 +1,6 @@
--- Flags at the places of subscriptions. First a walk that sets them one after the other (`marks_first`), and whether a serial is one of
+-- Flags at the places of subscriptions. First a walk that sets them one after the other (`flags_first`), and whether a serial is one of
 -- some that rise. Then what flags of sessions are: as many as before (`as_many`), those that were set are still (`still_set`), what is
--- left is what is left of the machine's list (`left_without`), and nothing of sessions that are marked
+-- left is what is left of the machine's list (`left_without`), and nothing of sessions that are flagged
 -- (`none_of_them`, `none_left`).
 use Rattle.std.proofs.Common.{◌≡◌, ◌≢◌, ℕ, zero, suc, ◌==◌, ◌||◌, Bool, true, false, not, cond, Some, List, [], ◌∷◌, length, map, set, slice_get, Result, Ok, Err, refl, ap, ◌∙◌, sym, subst, arith}
 use Rattle.std.proofs.lemmas.Bool.{eq-eqb}
@@ -33,11 +33,11 @@ gone_first serials (suc n) (b ∷ gone) (x ∷ xs) = (b || is_of serials x) ∷ 
 abbrev pub flag_at : Bool → ℕ → List Bool → List Bool
 flag_at b n gone = cond b (set gone n true) gone
 
-pub marks_first : (serials : List ℕ) (n : ℕ) (gone : List Bool) (xs : List Standing) (x : Standing) → length gone ≡ length xs
+pub flags_first : (serials : List ℕ) (n : ℕ) (gone : List Bool) (xs : List Standing) (x : Standing) → length gone ≡ length xs
     → slice_get xs n ≡ Some x → flag_at (is_of serials x) n (gone_first serials n gone xs) ≡ gone_first serials (suc n) gone xs
-marks_first serials n gone [] x long at = absurd (none-some x at)
-marks_first serials n [] (y ∷ xs) x long at = absurd (omega (arith, long))
-marks_first serials zero (b ∷ gone) (y ∷ xs) x long at =
+flags_first serials n gone [] x long at = absurd (none-some x at)
+flags_first serials n [] (y ∷ xs) x long at = absurd (omega (arith, long))
+flags_first serials zero (b ∷ gone) (y ∷ xs) x long at =
     subst (λ z. flag_at (is_of serials z) 0 (b ∷ gone) ≡ (b || is_of serials y) ∷ gone) (same_Some y x at) (by b (is_of serials y))
   where
     by : (c d : Bool) → flag_at d 0 (c ∷ gone) ≡ (c || d) ∷ gone
@@ -45,23 +45,23 @@ marks_first serials zero (b ∷ gone) (y ∷ xs) x long at =
     by true false = refl
     by false true = refl
     by false false = refl
-marks_first serials (suc n) (b ∷ gone) (y ∷ xs) x long at =
+flags_first serials (suc n) (b ∷ gone) (y ∷ xs) x long at =
     by (is_of serials x) (gone_first serials n gone xs)
-    ∙ ap (λ l. (b || is_of serials y) ∷ l) (marks_first serials n gone xs x (omega (arith, long)) at)
+    ∙ ap (λ l. (b || is_of serials y) ∷ l) (flags_first serials n gone xs x (omega (arith, long)) at)
   where
     by : (d : Bool) (l : List Bool) → flag_at d (suc n) ((b || is_of serials y) ∷ l) ≡ (b || is_of serials y) ∷ flag_at d n l
     by true l = refl
     by false l = refl
 
-pub all_marked : (serials : List ℕ) (n : ℕ) (gone : List Bool) (xs : List Standing) → length gone ≡ length xs → n ≡ length xs
+pub all_flagged : (serials : List ℕ) (n : ℕ) (gone : List Bool) (xs : List Standing) → length gone ≡ length xs → n ≡ length xs
     → gone_first serials n gone xs ≡ flags_with serials gone xs
-all_marked serials zero [] [] long e = refl
-all_marked serials zero (b ∷ gone) [] long e = absurd (omega (arith, long))
-all_marked serials zero gone (x ∷ xs) long e = absurd (omega (arith, e))
-all_marked serials (suc n) gone [] long e = absurd (omega (arith, e))
-all_marked serials (suc n) [] (x ∷ xs) long e = absurd (omega (arith, long))
-all_marked serials (suc n) (b ∷ gone) (x ∷ xs) long e =
-    ap (λ l. (b || is_of serials x) ∷ l) (all_marked serials n gone xs (omega (arith, long)) (omega (arith, e)))
+all_flagged serials zero [] [] long e = refl
+all_flagged serials zero (b ∷ gone) [] long e = absurd (omega (arith, long))
+all_flagged serials zero gone (x ∷ xs) long e = absurd (omega (arith, e))
+all_flagged serials (suc n) gone [] long e = absurd (omega (arith, e))
+all_flagged serials (suc n) [] (x ∷ xs) long e = absurd (omega (arith, long))
+all_flagged serials (suc n) (b ∷ gone) (x ∷ xs) long e =
+    ap (λ l. (b || is_of serials x) ∷ l) (all_flagged serials n gone xs (omega (arith, long)) (omega (arith, e)))
 
 pub as_many_first : (serials : List ℕ) (n : ℕ) (gone : List Bool) (xs : List Standing) → length (gone_first serials n gone xs) ≡ length gone
 as_many_first serials zero gone xs = refl
