@@ -21,7 +21,7 @@ use Rattle.ifmap_drill.specs.declared.tasks.Task.{Task}
 use Rattle.ifmap_drill.specs.declared.tasks.Task.TheVariants.{Begin, Subscribe, Update, Delete, Search, Poll, Renew}
 use Rattle.ifmap_drill.specs.Parts.{address, draw_ends, link_metadata, link_of}
 use Rattle.ifmap_drill.specs.Requests.{request_by, drill_search}
-use Rattle.ifmap_drill.proofs.Marks.{mark_levels_within}
+use Rattle.ifmap_drill.proofs.LinkElements.{link_element_levels_within}
 use Rattle.ifmap_elem.specs.laws.CharacterLaws.{plain_characters}
 
 abbrev pub AddressesAreIdentifiers : Type 0
@@ -75,7 +75,7 @@ pub request_bounded : (task : Task) (client : ℕ) (session : List ℕ) (draws :
 request_bounded Begin client session draws = tt
 request_bounded Subscribe client session draws =
     ((record { some = omega arith; few = omega arith }, search_bounded client 20 (omega arith)), tt)
-request_bounded Update client session draws = ((mark_levels_within, tt), tt)
+request_bounded Update client session draws = ((link_element_levels_within, tt), tt)
 request_bounded Delete client session draws = (tt, tt)
 request_bounded Search client session draws = search_bounded client 1 (omega arith)
 request_bounded Poll client session draws = tt

@@ -1,6 +1,6 @@
 mod ClientNames
 mod Counting
 mod FitRequests
+mod LinkElements
 mod Making
-mod Marks
 mod SoundDrills

@@ -1,9 +1,9 @@
 -- Printed text and printed values mean what was printed.
--- 1. A way to write bytes (`WritesMarked`): marked bytes as references, the others as they are.
+-- 1. A way to write bytes (`WritesEscaped`): escaped bytes as references, the others as they are.
 -- 2. What is written so is parts, runs of plain bytes and references, which add the bytes that were written (`expands`).
--- 3. Its characters are those of the bytes or of references, so what a document can have stays so; what marked bytes alone have is
+-- 3. Its characters are those of the bytes or of references, so what a document can have stays so; what escaped bytes alone have is
 --    nowhere in it (`never`).
--- 4. Texts and values are written in two such ways, each by a few facts of its marked bytes (`text_writes`, `value_writes`).
+-- 4. Texts and values are written in two such ways, each by a few facts of its escaped bytes (`text_writes`, `value_writes`).
 -- 5. So both mean what was printed, have no `<`, values no quote, and texts no `]]>`.
 use Rattle.std.proofs.Common.{◌≡◌, ◌≢◌, ℕ, ◌<◌, ◌≤◌, Bool, true, false, not, cond, ◌||◌, List, [], ◌∷◌, ◌++◌, map, length, get_or, refl, ap, sym, ◌∙◌, subst, arith, inl, inr, append_assoc}
 use Rattle.std.specs.Prelude.{◌==◌, ◌&&◌, codes, encode_utf8, encode_utf8_all, Some, nat_le}
@@ -24,16 +24,16 @@ use Rattle.ifmap_lemmas.specs.Members.{all_append, all_of_test}
 use Rattle.ifmap_lemmas.specs.Numbers.{equal_numbers, is_other}
 use Rattle.ifmap_lemmas.specs.Texts.{is_ascii, ascii_encoded}
 
--- a way to write bytes: the marked ones by a name between `&` and `;`, and the others as they are
-pub record WritesMarked (marked : ℕ → Bool) (name_of : ℕ → List ℕ) (write : ℕ → List ℕ) : Type 0 where
-  pub plain : (b : ℕ) → marked b ≡ false → write b ≡ b ∷ []
-  pub reference : (b : ℕ) → marked b ≡ true → write b ≡ ampersand ∷ (name_of b ++ (semicolon ∷ []))
-  pub marks_ampersand : marked ampersand ≡ true
-  pub names : (b : ℕ) → marked b ≡ true → AllAre (λ n. not (n == semicolon)) (name_of b)
-  pub refers : (b : ℕ) → marked b ≡ true → reference_value (name_of b) ≡ Some b
-  pub ascii : (b : ℕ) → marked b ≡ true → b < 128
-  pub ascii_written : (b : ℕ) → marked b ≡ true → encode_utf8_all (write b) ≡ write b
-  pub characters_written : (b : ℕ) → marked b ≡ true → AllAre is_character (write b)
+-- a way to write bytes: the escaped ones by a name between `&` and `;`, and the others as they are
+pub record WritesEscaped (escapes : ℕ → Bool) (name_of : ℕ → List ℕ) (write : ℕ → List ℕ) : Type 0 where
+  pub plain : (b : ℕ) → escapes b ≡ false → write b ≡ b ∷ []
+  pub reference : (b : ℕ) → escapes b ≡ true → write b ≡ ampersand ∷ (name_of b ++ (semicolon ∷ []))
+  pub escapes_ampersand : escapes ampersand ≡ true
+  pub names : (b : ℕ) → escapes b ≡ true → AllAre (λ n. not (n == semicolon)) (name_of b)
+  pub refers : (b : ℕ) → escapes b ≡ true → reference_value (name_of b) ≡ Some b
+  pub ascii : (b : ℕ) → escapes b ≡ true → b < 128
+  pub ascii_written : (b : ℕ) → escapes b ≡ true → encode_utf8_all (write b) ≡ write b
+  pub characters_written : (b : ℕ) → escapes b ≡ true → AllAre is_character (write b)
 
 -- a plain byte goes into the run that follows it, or begins one
 abbrev with_plain : ℕ → List ValuePart → List ValuePart
@@ -41,13 +41,13 @@ with_plain b [] = Plain (b ∷ []) ∷ []
 with_plain b (Plain run ∷ parts) = Plain (b ∷ run) ∷ parts
 with_plain b (Reference c ∷ parts) = Plain (b ∷ []) ∷ (Reference c ∷ parts)
 
-module _ (marked : ℕ → Bool) (name_of : ℕ → List ℕ) (write : ℕ → List ℕ) (w : WritesMarked marked name_of write) where
+module _ (escapes : ℕ → Bool) (name_of : ℕ → List ℕ) (write : ℕ → List ℕ) (w : WritesEscaped escapes name_of write) where
   abbrev value_parts : List ℕ → List ValuePart
   value_parts [] = []
-  value_parts (b ∷ bs) = cond (marked b) (Reference b ∷ value_parts bs) (with_plain b (value_parts bs))
+  value_parts (b ∷ bs) = cond (escapes b) (Reference b ∷ value_parts bs) (with_plain b (value_parts bs))
 
   -- a reference stands at the front
-  abbrev takes_reference : (b : ℕ) (rest : List ℕ) → marked b ≡ true → TakesPart (write b ++ rest) (Reference b) rest
+  abbrev takes_reference : (b : ℕ) (rest : List ℕ) → escapes b ≡ true → TakesPart (write b ++ rest) (Reference b) rest
   takes_reference b rest m = (
     name_of b,
     ap (λ l. l ++ rest) (w.reference b m) ∙ ap (λ l. ampersand ∷ l)
@@ -56,12 +56,13 @@ module _ (marked : ℕ → Bool) (name_of : ℕ → List ℕ) (write : ℕ → L
     w.refers b m,
   )
 
-  no_ampersand : (b : ℕ) → marked b ≡ false → not (b == ampersand) ≡ true
+  no_ampersand : (b : ℕ) → escapes b ≡ false → not (b == ampersand) ≡ true
   no_ampersand b m =
-      ap not (is_other b ampersand (λ e. let wrong : true ≡ false = sym w.marks_ampersand ∙ subst (λ (n : ℕ). marked n ≡ false) e m in cc))
+      ap not (is_other b ampersand
+      (λ e. let wrong : true ≡ false = sym w.escapes_ampersand ∙ subst (λ (n : ℕ). escapes n ≡ false) e m in cc))
 
   -- a plain byte before parts
-  takes_plain : (b : ℕ) (bytes : List ℕ) (parts : List ValuePart) → marked b ≡ false → To TakesPart bytes parts []
+  takes_plain : (b : ℕ) (bytes : List ℕ) (parts : List ValuePart) → escapes b ≡ false → To TakesPart bytes parts []
       → To TakesPart (b ∷ bytes) (with_plain b parts) []
   takes_plain b bytes [] m l = ([], (ap (λ x. b ∷ x) l, λ e. cc, (no_ampersand b m, tt), tt), refl)
   takes_plain b bytes (Plain run ∷ parts) m l =
@@ -71,7 +72,7 @@ module _ (marked : ℕ → Bool) (name_of : ℕ → List ℕ) (write : ℕ → L
 
   pub takes_parts : (bs : List ℕ) → To TakesPart (flat_map write bs) (value_parts bs) []
   takes_parts [] = refl
-  takes_parts (b ∷ bs) = elim (cases_Bool (marked b)) [
+  takes_parts (b ∷ bs) = elim (cases_Bool (escapes b)) [
     | inl m ↦ rw m (flat_map write bs, takes_reference b (flat_map write bs) m, takes_parts bs)
     | inr m ↦ rw (m, w.plain b m) (takes_plain b (flat_map write bs) (value_parts bs) m (takes_parts bs))
   ]
@@ -79,9 +80,9 @@ module _ (marked : ℕ → Bool) (name_of : ℕ → List ℕ) (write : ℕ → L
   -- what the parts add
   module _ (adds : ValuePart → List ℕ) (whole : (run : List ℕ) → List ℕ) (runs : (run : List ℕ) → adds (Plain run) ≡ whole run)
       (none : whole [] ≡ [])
-      (next : (b : ℕ) (run : List ℕ) → marked b ≡ false → whole (b ∷ run) ≡ b ∷ whole run)
+      (next : (b : ℕ) (run : List ℕ) → escapes b ≡ false → whole (b ∷ run) ≡ b ∷ whole run)
       (references : (c : ℕ) → adds (Reference c) ≡ encode_utf8 c) where
-    adds_plain : (b : ℕ) (parts : List ValuePart) → marked b ≡ false → flat_map adds (with_plain b parts) ≡ b ∷ flat_map adds parts
+    adds_plain : (b : ℕ) (parts : List ValuePart) → escapes b ≡ false → flat_map adds (with_plain b parts) ≡ b ∷ flat_map adds parts
     adds_plain b [] m = ap (λ x. x ++ []) (runs (b ∷ []) ∙ next b [] m ∙ ap (λ x. b ∷ x) none)
     adds_plain b (Plain run ∷ parts) m =
         ap (λ x. x ++ flat_map adds parts) (runs (b ∷ run) ∙ next b run m ∙ ap (λ x. b ∷ x) (sym (runs run)))
@@ -90,7 +91,7 @@ module _ (marked : ℕ → Bool) (name_of : ℕ → List ℕ) (write : ℕ → L
 
     pub adds_all : (bs : List ℕ) → bs ≡ flat_map adds (value_parts bs)
     adds_all [] = refl
-    adds_all (b ∷ bs) = elim (cases_Bool (marked b)) [
+    adds_all (b ∷ bs) = elim (cases_Bool (escapes b)) [
       | inl m ↦ rw m (ap (λ x. b ∷ x) (adds_all bs) ∙ ap (λ x. x ++ flat_map adds (value_parts bs))
           (sym (references b ∙ encode_ascii b (w.ascii b m))))
       | inr m ↦ rw m (ap (λ x. b ∷ x) (adds_all bs) ∙ sym (adds_plain b (value_parts bs) m))
@@ -108,7 +109,7 @@ module _ (marked : ℕ → Bool) (name_of : ℕ → List ℕ) (write : ℕ → L
     where
       plain_high : (b : ℕ) → 128 ≤ b → write b ≡ b ∷ []
       plain_high b high =
-          elim (cases_Bool (marked b)) [ inl m ↦ let low : b < 128 = w.ascii b m in absurd (omega arith) | inr m ↦ w.plain b m ]
+          elim (cases_Bool (escapes b)) [ inl m ↦ let low : b < 128 = w.ascii b m in absurd (omega arith) | inr m ↦ w.plain b m ]
 
   bytes_high : (c : ℕ) → 128 ≤ c → AllAre (λ b. nat_le 128 b) (encode_utf8 c)
   bytes_high c high =
@@ -124,7 +125,7 @@ module _ (marked : ℕ → Bool) (name_of : ℕ → List ℕ) (write : ℕ → L
 
   one_written : (c : ℕ) → flat_map write (encode_utf8 c) ≡ encode_utf8_all (write c)
   one_written c = elim (cases_lt c 128) [
-    | inl low ↦ ap (flat_map write) (encode_ascii c low) ∙ append-nil (write c) ∙ sym (elim (cases_Bool (marked c)) [
+    | inl low ↦ ap (flat_map write) (encode_ascii c low) ∙ append-nil (write c) ∙ sym (elim (cases_Bool (escapes c)) [
       | inl m ↦ w.ascii_written c m
       | inr m ↦ ap encode_utf8_all (w.plain c m) ∙ append-nil (encode_utf8 c) ∙ encode_ascii c low ∙ sym (w.plain c m)
     ])
@@ -133,7 +134,7 @@ module _ (marked : ℕ → Bool) (name_of : ℕ → List ℕ) (write : ℕ → L
     where
       high_plain : 128 ≤ c → write c ≡ c ∷ []
       high_plain high =
-          elim (cases_Bool (marked c)) [ inl m ↦ let low : c < 128 = w.ascii c m in absurd (omega arith) | inr m ↦ w.plain c m ]
+          elim (cases_Bool (escapes c)) [ inl m ↦ let low : c < 128 = w.ascii c m in absurd (omega arith) | inr m ↦ w.plain c m ]
 
   all_written : (cs : List ℕ) → flat_map write (encode_utf8_all cs) ≡ encode_utf8_all (flat_map write cs)
   all_written [] = refl
@@ -146,7 +147,7 @@ module _ (marked : ℕ → Bool) (name_of : ℕ → List ℕ) (write : ℕ → L
   are_characters (c ∷ cs) f = all_append is_character (write c) (flat_map write cs) first (are_characters cs f.1)
     where
       first : AllAre is_character (write c)
-      first = elim (cases_Bool (marked c)) [
+      first = elim (cases_Bool (escapes c)) [
         | inl m ↦ w.characters_written c m
         | inr m ↦ subst (AllAre is_character) (sym (w.plain c m))
             (f.0, tt)
@@ -155,23 +156,23 @@ module _ (marked : ℕ → Bool) (name_of : ℕ → List ℕ) (write : ℕ → L
   pub characters_of : (bs : List ℕ) → IsCharacters bs → IsCharacters (flat_map write bs)
   characters_of bs i = (flat_map write i.0, sym (all_written i.0) ∙ ap (flat_map write) i.1, are_characters i.0 i.2)
 
-  -- a byte that is marked, and stands in no reference, is nowhere in what is written
-  module _ (x : ℕ) (unmarked : marked x ≡ true) (unwritten : (b : ℕ) → marked b ≡ true → AllAre (λ n. not (n == x)) (write b)) where
+  -- a byte that is escaped, and stands in no reference, is nowhere in what is written
+  module _ (x : ℕ) (escaped : escapes x ≡ true) (unwritten : (b : ℕ) → escapes b ≡ true → AllAre (λ n. not (n == x)) (write b)) where
     pub never : (bs : List ℕ) → AllAre (λ n. not (n == x)) (flat_map write bs)
     never [] = tt
     never (b ∷ bs) = all_append (λ n. not (n == x)) (write b) (flat_map write bs) first (never bs)
       where
         first : AllAre (λ n. not (n == x)) (write b)
-        first = elim (cases_Bool (marked b)) [
+        first = elim (cases_Bool (escapes b)) [
           | inl m ↦ unwritten b m
           | inr m ↦
               subst (AllAre (λ n. not (n == x))) (sym (w.plain b m))
-              (ap not (is_other b x (λ e. let wrong : true ≡ false = sym unmarked ∙ subst (λ (n : ℕ). marked n ≡ false) e m in cc)), tt)
+              (ap not (is_other b x (λ e. let wrong : true ≡ false = sym escaped ∙ subst (λ (n : ℕ). escapes n ≡ false) e m in cc)), tt)
         ]
 
   pub some_written : (bs : List ℕ) → bs ≢ [] → flat_map write bs ≢ []
   some_written [] some e = some refl
-  some_written (b ∷ bs) some e = elim (cases_Bool (marked b)) [
+  some_written (b ∷ bs) some e = elim (cases_Bool (escapes b)) [
     | inl m ↦ let wrong : ampersand ∷ ((name_of b ++ (semicolon ∷ [])) ++ flat_map write bs) ≡ [] = ap (λ l. l ++ flat_map write bs)
         (sym (w.reference b m)) ∙ e in cc
     | inr m ↦ let wrong : b ∷ flat_map write bs ≡ [] = ap (λ l. l ++ flat_map write bs) (sym (w.plain b m)) ∙ e in cc
@@ -179,21 +180,21 @@ module _ (marked : ℕ → Bool) (name_of : ℕ → List ℕ) (write : ℕ → L
 
 -- text
 
-abbrev text_marked : ℕ → Bool
-text_marked b = b == ampersand || (b == less_than || (b == greater_than || b == carriage_return))
+abbrev text_escapes : ℕ → Bool
+text_escapes b = b == ampersand || (b == less_than || (b == greater_than || b == carriage_return))
 
 abbrev text_name : ℕ → List ℕ
 text_name b = cond (b == ampersand) (codes "amp") (cond (b == less_than) (codes "lt") (cond (b == greater_than) (codes "gt") (codes "#13")))
 
-abbrev value_marked : ℕ → Bool
-value_marked b = b == ampersand || (b == less_than || (b == double_quote || (b == tab || (b == line_feed || b == carriage_return))))
+abbrev value_escapes : ℕ → Bool
+value_escapes b = b == ampersand || (b == less_than || (b == double_quote || (b == tab || (b == line_feed || b == carriage_return))))
 
 abbrev value_name : ℕ → List ℕ
 value_name b = cond (b == ampersand) (codes "amp") (cond (b == less_than) (codes "lt")
     (cond (b == double_quote) (codes "quot") (cond (b == tab) (codes "#9") (cond (b == line_feed) (codes "#10") (codes "#13")))))
 
--- what holds of each marked byte
-text_cases : (P : ℕ → Type 0) → P ampersand → P less_than → P greater_than → P carriage_return → (b : ℕ) → text_marked b ≡ true → P b
+-- what holds of each escaped byte
+text_cases : (P : ℕ → Type 0) → P ampersand → P less_than → P greater_than → P carriage_return → (b : ℕ) → text_escapes b ≡ true → P b
 text_cases P amp lt gt cr b m = elim (or_cases (b == ampersand) _ m) [
   | inl e ↦ subst P (sym (equal_numbers b ampersand e)) amp
   | inr m ↦ elim (or_cases (b == less_than) _ m) [
@@ -206,7 +207,7 @@ text_cases P amp lt gt cr b m = elim (or_cases (b == ampersand) _ m) [
 ]
 
 value_cases : (P : ℕ → Type 0) → P ampersand → P less_than → P double_quote → P tab → P line_feed → P carriage_return
-    → (b : ℕ) → value_marked b ≡ true → P b
+    → (b : ℕ) → value_escapes b ≡ true → P b
 value_cases P amp lt quot ht lf cr b m = elim (or_cases (b == ampersand) _ m) [
   | inl e ↦ subst P (sym (equal_numbers b ampersand e)) amp
   | inr m ↦ elim (or_cases (b == less_than) _ m) [
@@ -224,19 +225,19 @@ value_cases P amp lt quot ht lf cr b m = elim (or_cases (b == ampersand) _ m) [
   ]
 ]
 
--- what is not marked is none of the bytes that are
-text_unmarked : (b : ℕ) → text_marked b ≡ false
+-- what is not escaped is none of the bytes that are
+text_unescaped : (b : ℕ) → text_escapes b ≡ false
     → ((b == ampersand) ≡ false) × ((b == less_than) ≡ false) × ((b == greater_than) ≡ false) × ((b == carriage_return) ≡ false)
-text_unmarked b m =
+text_unescaped b m =
     let p = or_parts (b == ampersand) _ m in
     let q = or_parts (b == less_than) _ p.1 in
     let r = or_parts (b == greater_than) _ q.1 in
     (p.0, q.0, r.0, r.1)
 
-value_unmarked : (b : ℕ) → value_marked b ≡ false
+value_unescaped : (b : ℕ) → value_escapes b ≡ false
     → ((b == ampersand) ≡ false) × ((b == less_than) ≡ false) × ((b == double_quote) ≡ false) × ((b == tab) ≡ false)
     × ((b == line_feed) ≡ false) × ((b == carriage_return) ≡ false)
-value_unmarked b m =
+value_unescaped b m =
     let p = or_parts (b == ampersand) _ m in
     let q = or_parts (b == less_than) _ p.1 in
     let r = or_parts (b == double_quote) _ q.1 in
@@ -244,29 +245,29 @@ value_unmarked b m =
     let t = or_parts (b == line_feed) _ s.1 in
     (p.0, q.0, r.0, s.0, t.0, t.1)
 
-text_plain : (b : ℕ) → text_marked b ≡ false → text_byte b ≡ b ∷ []
-text_plain b m = let u = text_unmarked b m in rw (u.0, u.1, u.2, u.3) refl
+text_plain : (b : ℕ) → text_escapes b ≡ false → text_byte b ≡ b ∷ []
+text_plain b m = let u = text_unescaped b m in rw (u.0, u.1, u.2, u.3) refl
 
-value_plain : (b : ℕ) → value_marked b ≡ false → value_byte b ≡ b ∷ []
-value_plain b m = let u = value_unmarked b m in rw (u.0, u.1, u.2, u.3, u.4, u.5) refl
+value_plain : (b : ℕ) → value_escapes b ≡ false → value_byte b ≡ b ∷ []
+value_plain b m = let u = value_unescaped b m in rw (u.0, u.1, u.2, u.3, u.4, u.5) refl
 
 text_written : (p : ℕ → Bool) → list_all p (text_byte ampersand) ≡ true → list_all p (text_byte less_than) ≡ true
     → list_all p (text_byte greater_than) ≡ true → list_all p (text_byte carriage_return) ≡ true
-    → (b : ℕ) → text_marked b ≡ true → AllAre p (text_byte b)
+    → (b : ℕ) → text_escapes b ≡ true → AllAre p (text_byte b)
 text_written p amp lt gt cr b m = all_of_test p (text_byte b) (text_cases (λ b. list_all p (text_byte b) ≡ true) amp lt gt cr b m)
 
 value_written : (p : ℕ → Bool) → list_all p (value_byte ampersand) ≡ true → list_all p (value_byte less_than) ≡ true
     → list_all p (value_byte double_quote) ≡ true → list_all p (value_byte tab) ≡ true
     → list_all p (value_byte line_feed) ≡ true → list_all p (value_byte carriage_return) ≡ true
-    → (b : ℕ) → value_marked b ≡ true → AllAre p (value_byte b)
+    → (b : ℕ) → value_escapes b ≡ true → AllAre p (value_byte b)
 value_written p amp lt quot ht lf cr b m =
     all_of_test p (value_byte b) (value_cases (λ b. list_all p (value_byte b) ≡ true) amp lt quot ht lf cr b m)
 
-text_writes : WritesMarked text_marked text_name text_byte
+text_writes : WritesEscaped text_escapes text_name text_byte
 text_writes = record {
   plain = text_plain;
   reference = text_cases (λ b. text_byte b ≡ ampersand ∷ (text_name b ++ (semicolon ∷ []))) refl refl refl refl;
-  marks_ampersand = refl;
+  escapes_ampersand = refl;
   names = text_cases (λ b. AllAre (λ n. not (n == semicolon)) (text_name b)) (refl, (refl, (refl, tt))) (refl, (refl, tt))
       (refl, (refl, tt)) (refl, (refl, (refl, tt)));
   refers = text_cases (λ b. reference_value (text_name b) ≡ Some b) refl refl refl refl;
@@ -275,11 +276,11 @@ text_writes = record {
   characters_written = λ b m. text_written is_character refl refl refl refl b m;
 }
 
-value_writes : WritesMarked value_marked value_name value_byte
+value_writes : WritesEscaped value_escapes value_name value_byte
 value_writes = record {
   plain = value_plain;
   reference = value_cases (λ b. value_byte b ≡ ampersand ∷ (value_name b ++ (semicolon ∷ []))) refl refl refl refl refl refl;
-  marks_ampersand = refl;
+  escapes_ampersand = refl;
   names = λ b m. all_of_test (λ n. not (n == semicolon)) (value_name b)
       (value_cases (λ b. list_all (λ n. not (n == semicolon)) (value_name b) ≡ true) refl refl refl refl refl refl b m);
   refers = value_cases (λ b. reference_value (value_name b) ≡ Some b) refl refl refl refl refl refl;
@@ -289,44 +290,44 @@ value_writes = record {
 }
 
 pub text_means : (text : List ℕ) → IsText (text_bytes text) text
-text_means text = expands text_marked text_name text_byte text_writes text_part line_ends (λ run. refl) refl next (λ c. refl) text
+text_means text = expands text_escapes text_name text_byte text_writes text_part line_ends (λ run. refl) refl next (λ c. refl) text
   where
-    next : (b : ℕ) (run : List ℕ) → text_marked b ≡ false → line_ends (b ∷ run) ≡ b ∷ line_ends run
-    next b run m = let u = text_unmarked b m in rw u.3 refl
+    next : (b : ℕ) (run : List ℕ) → text_escapes b ≡ false → line_ends (b ∷ run) ≡ b ∷ line_ends run
+    next b run m = let u = text_unescaped b m in rw u.3 refl
 
 pub value_means : (value : List ℕ) → IsValue (value_bytes value) value
-value_means value = expands value_marked value_name value_byte value_writes value_part (λ run. map as_space (line_ends run))
+value_means value = expands value_escapes value_name value_byte value_writes value_part (λ run. map as_space (line_ends run))
     (λ run. refl) refl next (λ c. refl) value
   where
-    next : (b : ℕ) (run : List ℕ) → value_marked b ≡ false → map as_space (line_ends (b ∷ run)) ≡ b ∷ map as_space (line_ends run)
-    next b run m = let u = value_unmarked b m in rw (u.5, u.3, u.4) refl
+    next : (b : ℕ) (run : List ℕ) → value_escapes b ≡ false → map as_space (line_ends (b ∷ run)) ≡ b ∷ map as_space (line_ends run)
+    next b run m = let u = value_unescaped b m in rw (u.5, u.3, u.4) refl
 
 pub text_characters : (text : List ℕ) → IsCharacters text → IsCharacters (text_bytes text)
-text_characters = characters_of text_marked text_name text_byte text_writes
+text_characters = characters_of text_escapes text_name text_byte text_writes
 
 pub value_characters : (value : List ℕ) → IsCharacters value → IsCharacters (value_bytes value)
-value_characters = characters_of value_marked value_name value_byte value_writes
+value_characters = characters_of value_escapes value_name value_byte value_writes
 
 pub text_some : (text : List ℕ) → text ≢ [] → text_bytes text ≢ []
-text_some = some_written text_marked text_name text_byte text_writes
+text_some = some_written text_escapes text_name text_byte text_writes
 
 pub text_no_tag : (text : List ℕ) → AllAre (λ b. not (b == less_than)) (text_bytes text)
 text_no_tag =
-    never text_marked text_name text_byte text_writes less_than refl (text_written (λ n. not (n == less_than)) refl refl refl refl)
+    never text_escapes text_name text_byte text_writes less_than refl (text_written (λ n. not (n == less_than)) refl refl refl refl)
 
 pub value_no_tag : (value : List ℕ) → AllAre (λ b. not (b == less_than)) (value_bytes value)
 value_no_tag =
-    never value_marked value_name value_byte value_writes less_than refl
+    never value_escapes value_name value_byte value_writes less_than refl
     (value_written (λ n. not (n == less_than)) refl refl refl refl refl refl)
 
 pub value_no_quote : (value : List ℕ) → AllAre (λ b. not (b == double_quote)) (value_bytes value)
 value_no_quote =
-    never value_marked value_name value_byte value_writes double_quote refl
+    never value_escapes value_name value_byte value_writes double_quote refl
     (value_written (λ n. not (n == double_quote)) refl refl refl refl refl refl)
 
 text_no_end : (text : List ℕ) → AllAre (λ b. not (b == greater_than)) (text_bytes text)
 text_no_end =
-    never text_marked text_name text_byte text_writes greater_than refl (text_written (λ n. not (n == greater_than)) refl refl refl refl)
+    never text_escapes text_name text_byte text_writes greater_than refl (text_written (λ n. not (n == greater_than)) refl refl refl refl)
 
 -- `]]>` begins with no byte but `]`, and ends with `>`
 no_section_end : (b : ℕ) (bs : List ℕ) → AllAre (λ b. not (b == greater_than)) (b ∷ bs) → starts_with ◌==◌ (b ∷ bs) (codes "]]>") ≡ false

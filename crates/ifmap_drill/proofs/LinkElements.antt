@@ -54,8 +54,8 @@ cardinality_fits = record {
   value = plain_characters (codes "singleValue") (all_of_test is_plain (codes "singleValue") refl);
 }
 
-mark_fits : IsFit link_element
-mark_fits = fit_whole link_element (record {
+link_element_fits : IsFit link_element
+link_element_fits = fit_whole link_element (record {
   name = record { space = plain_space (codes "urn:mapd:drill") refl refl refl; local = plain_part 108 (codes "ink") refl refl refl };
   attributes = (cardinality_fits, tt);
   names_differ = (tt, tt);
@@ -64,37 +64,37 @@ mark_fits = fit_whole link_element (record {
 
 -- ---- it has one level, is arranged, and is short
 
-mark_levels : nesting link_element ≡ 1
-mark_levels = at_element ℕ ℕ child_levels element_levels link_element
+link_element_levels : nesting link_element ≡ 1
+link_element_levels = at_element ℕ ℕ child_levels element_levels link_element
 
-pub mark_levels_within : nesting link_element ≤ 59
-mark_levels_within = omega (arith, mark_levels)
+pub link_element_levels_within : nesting link_element ≤ 59
+link_element_levels_within = omega (arith, link_element_levels)
 
-mark_arranged : arrange link_element ≡ link_element
-mark_arranged = arranged_is link_element
+link_element_arranged : arrange link_element ≡ link_element
+link_element_arranged = arranged_is link_element
 
-mark_spaces : spaces_of link_element ≡ codes "urn:mapd:drill" ∷ ([] ∷ [])
-mark_spaces = at_element (List (List ℕ)) (List (List ℕ)) child_spaces element_spaces link_element
+link_element_spaces : spaces_of link_element ≡ codes "urn:mapd:drill" ∷ ([] ∷ [])
+link_element_spaces = at_element (List (List ℕ)) (List (List ℕ)) child_spaces element_spaces link_element
 
 printed_by : List (List ℕ) → List ℕ
 printed_by spaces =
     element_of_parts (name_prefixes (declared_among spaces)) (numbered_prefixes (codes "n") 1 (declared_among spaces) ++ [])
     link_element.name link_element.attributes []
 
-mark_size : length (canonical_bytes link_element) ≡ 68
+link_element_size : length (canonical_bytes link_element) ≡ 68
 unfolding printed_by
-mark_size =
-    ap (λ (e : Element). length (root_bytes [] e)) mark_arranged
-    ∙ ap (λ (spaces : List (List ℕ)). length (printed_by spaces)) mark_spaces
+link_element_size =
+    ap (λ (e : Element). length (root_bytes [] e)) link_element_arranged
+    ∙ ap (λ (spaces : List (List ℕ)). length (printed_by spaces)) link_element_spaces
 
-mark_made : IsMadeOf link_element link_metadata
+link_element_made : IsMadeOf link_element link_metadata
 unfolding content_bytes
-mark_made = record {
-  element = sym mark_arranged;
+link_element_made = record {
+  element = sym link_element_arranged;
   cardinality = refl;
-  size = let size = mark_size in omega arith;
+  size = let size = link_element_size in omega arith;
 }
 
-pub mark_is_metadata : ((element : Element) (metadata : Metadata) → IsFit element → nesting element ≤ level_limit
+pub link_element_is_metadata : ((element : Element) (metadata : Metadata) → IsFit element → nesting element ≤ level_limit
     → IsMadeOf element metadata → IsMetadata metadata) → IsMetadata link_metadata
-mark_is_metadata made = made link_element link_metadata mark_fits (omega (arith, mark_levels)) mark_made
+link_element_is_metadata made = made link_element link_metadata link_element_fits (omega (arith, link_element_levels)) link_element_made
