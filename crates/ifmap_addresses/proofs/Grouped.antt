@@ -24,16 +24,16 @@ hex_length n k e = ap (λ j. 4 - j) e ∙ sym (length-drop (leading_zero_digits 
 -- of the digits of n and a colon, from the first that is written on
 module _ (n k : ℕ) (digits : List ℕ) (is : digits ≡ four_hex_digits n ++ (byte ":" ∷ [])) (zeros : k ≡ leading_zero_digits n)
     (few : k < 4) where
-  closed : drop k digits ≡ hex n ++ (byte ":" ∷ [])
+  ends_in_colon : drop k digits ≡ hex n ++ (byte ":" ∷ [])
   unfolding hex
-  closed = ap (drop k) is ∙ drop-append-le k (four_hex_digits n) (byte ":" ∷ []) (omega arith)
+  ends_in_colon = ap (drop k) is ∙ drop-append-le k (four_hex_digits n) (byte ":" ∷ []) (omega arith)
       ∙ ap (λ j. drop j (four_hex_digits n) ++ (byte ":" ∷ [])) zeros
 
   pub closed_hex : take (5 - k) (drop k digits) ≡ hex n ++ (byte ":" ∷ [])
-  closed_hex = take_all (5 - k) (drop k digits) (let all = length-drop k digits in let many = ap length is in omega arith) ∙ closed
+  closed_hex = take_all (5 - k) (drop k digits) (let all = length-drop k digits in let many = ap length is in omega arith) ∙ ends_in_colon
 
   pub bare_hex : take (4 - k) (drop k digits) ≡ hex n
-  bare_hex = (λ i. take (hex_length n k zeros i) (closed i)) ∙ take-append_seam (hex n) (byte ":" ∷ [])
+  bare_hex = (λ i. take (hex_length n k zeros i) (ends_in_colon i)) ∙ take-append_seam (hex n) (byte ":" ∷ [])
 
 -- ---- order
 

@@ -59,8 +59,8 @@ module _ {ready : Ready} {wanted : Plan} {old mid to : Parts} (out : IsOutAndTol
   last_is : to ≡ last
   last_is = λ i. record { graph = out.graph i; sessions = to.sessions; standing = to.standing }
 
-  same : AtEach (λ _. StaysRelated HasSameSearch) old.standing.items to.standing.items
-  same = subst (λ (p : Parts). AtEach (λ _. StaysRelated HasSameSearch) p.standing.items to.standing.items) first_is out.same
+  searches_stay : AtEach (λ _. StaysRelated HasSameSearch) old.standing.items to.standing.items
+  searches_stay = subst (λ (p : Parts). AtEach (λ _. StaysRelated HasSameSearch) p.standing.items to.standing.items) first_is out.same
 
   sessions : HasSameSessions old.sessions to.sessions
   sessions = subst (λ (t : SessionTable). HasSameSessions t to.sessions) out.was_sessions out.sessions
@@ -93,46 +93,46 @@ module _ {ready : Ready} {wanted : Plan} {old mid to : Parts} (out : IsOutAndTol
   abbrev new : Parts
   new = record { graph = g; sessions = to.sessions; standing = to.standing }
 
-  made : Commits wanted mid.graph g undo
-  made = subst (λ p. Commits p mid.graph g undo) out.begun.plan (subst (λ h. Commits ready.plan h g undo) out.graph commits)
+  commits_wanted : Commits wanted mid.graph g undo
+  commits_wanted = subst (λ p. Commits p mid.graph g undo) out.begun.plan (subst (λ h. Commits ready.plan h g undo) out.graph commits)
 
   sight_made : sight_next mid.graph ≡ sight_now g
   sight_made = λ i. record {
-    rows = sym made.rows i;
-    id_at = λ v. key_at (sym made.names i) v;
-    links = λ v. sym (made.links v) i;
+    rows = sym commits_wanted.rows i;
+    id_at = λ v. key_at (sym commits_wanted.names i) v;
+    links = λ v. sym (commits_wanted.links v) i;
   }
 
   after_now : IsAfter wanted.changes (rows_now old.graph) (rows_next mid.graph)
   after_now = subst (λ rows. IsAfter wanted.changes rows (rows_next mid.graph)) out.begun.rows out.begun.change.after
 
   pub numbers_made : KeepsNumbers old.graph g
-  numbers_made v x e = ap (λ n. key_at n v) made.names ∙ out.begun.numbers v x e
+  numbers_made v x e = ap (λ n. key_at n v) commits_wanted.names ∙ out.begun.numbers v x e
 
   whole_made : Fits (rows_now old.graph) wanted.changes → AreWhole (rows_now old.graph) → AreWhole (rows_now g)
-  whole_made fits whole = subst AreWhole (sym made.rows)
+  whole_made fits whole = subst AreWhole (sym commits_wanted.rows)
       (whole_after (rows_now old.graph) (rows_next mid.graph) wanted.changes fits after_now whole)
 
   pub steady_made : IsSteady old.graph old.standing.items → Fits (rows_now old.graph) wanted.changes → IsSteady g to.standing.items
   steady_made steady fits = record {
-    still = made.still;
+    still = commits_wanted.still;
     whole = whole_made fits steady.whole;
-    own = own_beside g old.standing.items to.standing.items (same out) (λ x. made.own x (starts_of x old.standing.items)
+    own = own_beside g old.standing.items to.standing.items (searches_stay out) (λ x. commits_wanted.own x (starts_of x old.standing.items)
         (out.begun.own x (starts_of x old.standing.items) (steady.own x)));
-    numbered = numbered_beside g old.standing.items to.standing.items (same out)
+    numbered = numbered_beside g old.standing.items to.standing.items (searches_stay out)
         (numbered_more old.graph g old.standing.items numbers_made steady.numbered);
   }
 
   lean_made : StaysLeanWith (items_changed undo.plan.changes) old.graph g
-  lean_made rest l = subst (λ (p : Plan). IsLean (items_changed p.changes ++ rest) g) (sym made.same)
-      (made.lean (awaits_out out) (items_changed wanted.changes ++ rest) (out.begun.lean rest l))
+  lean_made rest l = subst (λ (p : Plan). IsLean (items_changed p.changes ++ rest) g) (sym commits_wanted.same)
+      (commits_wanted.lean (awaits_out out) (items_changed wanted.changes ++ rest) (out.begun.lean rest l))
 
   pub turned_made : AreTurnedWith (items_changed undo.plan.changes) old new
   turned_made = record {
-    waits = λ rest w. subst (λ (p : Plan). AreAwaited (items_changed p.changes ++ rest) g) (sym made.same)
-        (made.waits (items_changed wanted.changes ++ rest) (out.begun.waits rest w));
+    waits = λ rest w. subst (λ (p : Plan). AreAwaited (items_changed p.changes ++ rest) g) (sym commits_wanted.same)
+        (commits_wanted.waits (items_changed wanted.changes ++ rest) (out.begun.waits rest w));
     lean = lean_made;
-    searches = same out;
+    searches = searches_stay out;
     sessions = sessions out;
   }
 
@@ -141,7 +141,7 @@ module _ {ready : Ready} {wanted : Plan} {old mid to : Parts} (out : IsOutAndTol
   back_made ways lead = record {
     graph = subst (λ rows. IsUndoTo undo rows (links_now old.graph) g) out.begun.rows
         (subst (λ (links : ℕ → List LinkSeen). IsUndoTo undo (rows_now mid.graph) links g) (λ i v. out.begun.links v i)
-        (made.back (awaits_out out)));
+        (commits_wanted.back (awaits_out out)));
     lean = lean_made;
     numbers = λ v x y e f. same_Some y x (sym f ∙ numbers_made v x e);
     standing = subst (λ (p : Parts). LeadBack p.standing.items ways to.standing.items) (first_is out) lead;
@@ -165,13 +165,14 @@ module _ {ready : Ready} {wanted : Plan} {old mid to : Parts} (out : IsOutAndTol
         let one : rows_next mid.graph ≡ rows
         = one_graph tells (rows_next mid.graph) rows out.begun.next.graph graph (λ x. after_now x ∙ sym (is x))
         in let made_now : state_now a new after ≡ with_next a (last out) after
-        = (λ i. record (with_next a (last out) after) { graph = made.rows i })
+        = (λ i. record (with_next a (last out) after) { graph = commits_wanted.rows i })
         in made_now ∙ told.state
         ∙ (λ i. overflow (tell (one i) wanted.notes (same_so_far ready wanted old mid.graph out.begun a before i)))
 
     pub bare_made : (n : ℕ) → HasNoSubscriptions n old before → HasNoSubscriptions n new after
     bare_made n bare = kept_later (λ x. x.serial ≢ n) (λ x. x.serial ≢ n) before.gone.items after.gone.items old.standing.items
-        to.standing.items r.flags (same out).long (λ i x y p q other e. other (sym ((same out).at i x y p q).serial ∙ e)) told.gone bare
+        to.standing.items r.flags (searches_stay out).long
+        (λ i x y p q other e. other (sym ((searches_stay out).at i x y p q).serial ∙ e)) told.gone bare
 
     -- no queue is greater than its limit once all is told
     within_made : AreWithinLimits (map (tell_by after.tellings) (sessions_left a to.sessions))
@@ -191,14 +192,14 @@ module _ {ready : Ready} {wanted : Plan} {old mid to : Parts} (out : IsOutAndTol
     ready_made = record {
       ended = subst (CanEnd a.ended) (sym (sessions out).live) r.ended;
       ordered = subst (λ live. AreOrdered live to.standing.items) (sym (sessions out).live)
-          (same_ordered old.sessions.live old.standing.items to.standing.items (same out) r.ordered);
+          (same_ordered old.sessions.live old.standing.items to.standing.items (searches_stay out) r.ordered);
       flags = told.flags;
       kept = λ i x e f. subst (λ s. IsUpToDate s x.subscription) sight_made (told.kept i x e f);
       live = kept_later (λ x. IsLive x.serial (sessions_left a old.sessions))
           (λ x. IsLive x.serial (sessions_left a to.sessions)) before.gone.items
-          after.gone.items old.standing.items to.standing.items r.flags (same out).long
+          after.gone.items old.standing.items to.standing.items r.flags (searches_stay out).long
           (λ i x y p q l. subst (λ live. IsLive y.serial (sessions_left a (record to.sessions { live = live }))) (sym (sessions out).live)
-          (subst (λ n. IsLive n (sessions_left a old.sessions)) (sym ((same out).at i x y p q).serial) l)) told.gone r.live;
+          (subst (λ n. IsLive n (sessions_left a old.sessions)) (sym ((searches_stay out).at i x y p q).serial) l)) told.gone r.live;
       queues = subst AreWithinLimits (sym (sessions out).live) r.queues;
       within = within_made;
       can_tell = told.can_tell;
@@ -220,35 +221,35 @@ pub record Forgets (plan : Plan) (old new : GraphInside) : Type 0 where
 
 module _ {ready : Ready} {wanted : Plan} {old mid to : Parts} (out : IsOutAndTold ready wanted old mid to) {g : GraphInside}
     (forgets : Forgets ready.plan to.graph g) where
-  gone : Forgets wanted mid.graph g
-  gone = subst (λ p. Forgets p mid.graph g) out.begun.plan (subst (λ h. Forgets ready.plan h g) out.graph forgets)
+  forgets_wanted : Forgets wanted mid.graph g
+  forgets_wanted = subst (λ p. Forgets p mid.graph g) out.begun.plan (subst (λ h. Forgets ready.plan h g) out.graph forgets)
 
   pub given_up : BytesTellIdentifiers → IsSteady old.graph old.standing.items
       → AtEach (λ _. StaysRelated KeepsSame) mid.standing.items to.standing.items
       → AreKept old (record { graph = g; sessions = to.sessions; standing = to.standing })
   given_up tells steady keep =
       let begun = out.begun
-      in let rows : rows_now g ≡ rows_now old.graph = gone.rows ∙ begun.rows
+      in let rows : rows_now g ≡ rows_now old.graph = forgets_wanted.rows ∙ begun.rows
       in let kept = subst (λ (p : Parts). AtEach (λ _. StaysRelated KeepsSame) p.standing.items to.standing.items) (first_is out) keep
       in let own : (x : Identifier) → IsOwn g x (starts_of x old.standing.items)
-      = λ x. gone.own x (starts_of x old.standing.items) (begun.own x (starts_of x old.standing.items) (steady.own x))
-      in let numbered = numbered_still tells mid.graph g begun.now gone.numbers old.standing.items
+      = λ x. forgets_wanted.own x (starts_of x old.standing.items) (begun.own x (starts_of x old.standing.items) (steady.own x))
+      in let numbered = numbered_still tells mid.graph g begun.now forgets_wanted.numbers old.standing.items
       (numbered_more old.graph mid.graph old.standing.items begun.numbers steady.numbered) own
       in record {
         back = record {
           steady = record {
-            still = gone.still;
+            still = forgets_wanted.still;
             whole = subst AreWhole (sym rows) steady.whole;
-            own = own_beside g old.standing.items to.standing.items (same out) own;
-            numbered = numbered_beside g old.standing.items to.standing.items (same out) numbered;
+            own = own_beside g old.standing.items to.standing.items (searches_stay out) own;
+            numbered = numbered_beside g old.standing.items to.standing.items (searches_stay out) numbered;
           };
           rows = rows;
-          links = λ v. gone.links v ∙ begun.links v;
-          numbers = λ v x y e f. shared ready wanted old mid.graph begun v x y e (gone.numbers v y f);
-          lean = λ rest l. gone.lean rest (begun.lean rest l);
+          links = λ v. forgets_wanted.links v ∙ begun.links v;
+          numbers = λ v x y e f. shared ready wanted old mid.graph begun v x y e (forgets_wanted.numbers v y f);
+          lean = λ rest l. forgets_wanted.lean rest (begun.lean rest l);
           standing = kept;
           sessions = sessions out;
         };
-        backs = λ u rows links b. gone.backs u rows links (begun.waits (items_changed u.plan.changes) b.waits)
+        backs = λ u rows links b. forgets_wanted.backs u rows links (begun.waits (items_changed u.plan.changes) b.waits)
             (begun.backs u rows links b);
       }

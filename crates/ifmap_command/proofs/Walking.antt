@@ -1,6 +1,6 @@
 -- What a parse of the command comes to, where no word is an option. A walk over words stops at the name of a subcommand, which has
 -- the rest of them: `stopped_walk` and `stopped_faults`, by induction over the rest. `replay_faults` and its like join the two for a name,
--- `unnamed` says that another first word fails, and so does no word at all. `found_words` is what an `Ok` shows, and `failed_words` what an
+-- `unnamed_word_fails` says that another first word fails, and so does no word at all. `found_words` is what an `Ok` shows, and `failed_words` what an
 -- `Err` does.
 use Rattle.std.proofs.Common.{◌≡◌, ◌∙◌, ℕ, Bool, true, false, List, [], ◌∷◌, ◌++◌, Option, Some, None, arith, append-nil, append_assoc, codes, refl, sym, ap, ap₂, subst, inl, inr, ◌⊎◌}
 use Rattle.std.proofs.lemmas.Slice.Eq.{bytes_eq-Decides}
@@ -164,9 +164,9 @@ none_fails : fault_of command_app [] ≡ [] → ⊥
 unfolding walk_fault defaults_fault
 none_fails e = some_kind _ _ e
 
-unnamed : (word : Text) (rest : List Text) → is_option word ≡ false → subcommand_met (names_of app) idle word ≡ None
+unnamed_word_fails : (word : Text) (rest : List Text) → is_option word ≡ false → subcommand_met (names_of app) idle word ≡ None
     → fault_of command_app (word ∷ rest) ≡ [] → ⊥
-unnamed word rest plain none e =
+unnamed_word_fails word rest plain none e =
     some_kind _ _ (sym (walk_fails app.top (names_of app) nothing_held 1 word rest plain none) ∙ first_none _ _ e)
 
 -- which name a word is
@@ -180,8 +180,8 @@ named_at word false true s er ed es = inr (inl ((bytes_eq-Decides drill word).0 
 named_at word false false true er ed es = inr (inr (inl ((bytes_eq-Decides serve word).0 es)))
 named_at word false false false er ed es = inr (inr (inr (rw (er, ed, es) refl)))
 
-named : (word : Text) → IsNamed word
-named word = named_at word (bytes_eq replay word) (bytes_eq drill word) (bytes_eq serve word) refl refl refl
+word_is_named : (word : Text) → IsNamed word
+word_is_named word = named_at word (bytes_eq replay word) (bytes_eq drill word) (bytes_eq serve word) refl refl refl
 
 -- ---- what is found
 
@@ -228,12 +228,12 @@ found_serve rest p =
 
 pub found_words : (words : List Text) → Passes words → FindsCommand words (subcommand_of command_app words)
 found_words [] p = absurd (none_fails p.1)
-found_words (word ∷ rest) p = elim (named word) [
+found_words (word ∷ rest) p = elim (word_is_named word) [
   | inl e ↦ subst (λ w. Passes (w ∷ rest) → FindsCommand (w ∷ rest) (subcommand_of command_app (w ∷ rest))) e (found_replay rest) p
   | inr (inl e) ↦ subst (λ w. Passes (w ∷ rest) → FindsCommand (w ∷ rest) (subcommand_of command_app (w ∷ rest))) e (found_drill rest) p
   | inr (inr (inl e)) ↦
       subst (λ w. Passes (w ∷ rest) → FindsCommand (w ∷ rest) (subcommand_of command_app (w ∷ rest))) e (found_serve rest) p
-  | inr (inr (inr none)) ↦ absurd (unnamed word rest (no_option_among word rest p.0).0 none p.1)
+  | inr (inr (inr none)) ↦ absurd (unnamed_word_fails word rest (no_option_among word rest p.0).0 none p.1)
 ]
 
 -- ---- what passes
@@ -263,10 +263,10 @@ parsed_words it words found Q is plain kinds matches =
     subst (FindsCommand words) (sym same) (found_words words (plain, passes))
 
 -- words that fail, but not for want of memory, do not pass
-failed : (it : App) (words : List Text) (error : Error) → it ≡ command_app
+failed_words_do_not_pass : (it : App) (words : List Text) (error : Error) → it ≡ command_app
     → (is_simple_and_free it ≡ true → HasKind (fault_of it words) error) → (kind_of error ≡ OutOfMemory → ⊥)
     → fault_of command_app words ≡ [] → ⊥
-failed it words error is kinds other passes =
+failed_words_do_not_pass it words error is kinds other passes =
     let has = kinds (ap is_simple_and_free is ∙ command_is_simple) in
     elim (subst (λ faults. HasKind faults error) (ap (λ a. fault_of a words) is ∙ passes) has) [
       | inl memory ↦ other memory
@@ -276,10 +276,10 @@ failed it words error is kinds other passes =
 pub failed_words : (it : App) (words : List Text) (error : Error) → it ≡ command_app
     → (is_simple_and_free it ≡ true → HasKind (fault_of it words) error) → (kind_of error ≡ OutOfMemory → ⊥) → IsWrong words
 failed_words it words error is kinds other = record {
-  no_replay = λ e. failed it words error is kinds other (ap (fault_of command_app) e ∙ replay_taken);
-  no_drill = λ key count d. failed it words error is kinds other (ap (fault_of command_app) d.words_are
+  no_replay = λ e. failed_words_do_not_pass it words error is kinds other (ap (fault_of command_app) e ∙ replay_taken);
+  no_drill = λ key count d. failed_words_do_not_pass it words error is kinds other (ap (fault_of command_app) d.words_are
       ∙ drill_taken (decimal key) (decimal count) (decimal_plain key d.key_fits)
       (let few = d.few in decimal_plain count (omega arith)));
-  no_serve = λ address workers s. failed it words error is kinds other (ap (fault_of command_app) s.words_are
+  no_serve = λ address workers s. failed_words_do_not_pass it words error is kinds other (ap (fault_of command_app) s.words_are
       ∙ serve_taken address (decimal workers) s.plain (let few = s.few in decimal_plain workers (omega arith)));
 }

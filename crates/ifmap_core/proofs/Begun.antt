@@ -2,7 +2,7 @@
 -- 1. Parts of which the sessions have more room are as ready as before (`ready_with`).
 -- 2. Whether the client can be given a session is what the code has tested (`full_is`,
 --    `full_where_counted`); where not, that is the answer (`full_leads`).
--- 3. Once the former session is gone there is room, and the client has none (`fewer`, `freed`).
+-- 3. Once the former session is gone there is room, and the client has none (`room_after_former`, `client_free_after_former`).
 -- 4. The session that is begun is the next one (`begun_is`), and so is the state it leads to
 --    (`leads`).
 -- 5. That it can be opened (`can_open`), and so all together: it begins (`begins`).
@@ -121,20 +121,20 @@ full_leads a parts pending random limit r is can full =
 -- ---- a session begins
 
 module _ (table : SessionTable) (client : List ℕ) where
-  fewer : (live : List Session) (o : Option Session) → session_of_client client live ≡ o → length live ≤ most_sessions
+  room_after_former : (live : List Session) (o : Option Session) → session_of_client client live ≡ o → length live ≤ most_sessions
       → (nat_le most_sessions (length live) && is_none o) ≡ false
       → length (after_former (option_map (λ (s : Session). s.serial) o) live) < most_sessions
-  fewer live None e few free = grind (arith, nat_tests, free)
-  fewer live (Some s) e few free = let less = one_fewer live client s e in omega (arith, less, few)
+  room_after_former live None e few free = grind (arith, nat_tests, free)
+  room_after_former live (Some s) e few free = let less = one_fewer live client s e in omega (arith, less, few)
 
-  freed : (live : List Session) (o : Option Session) → session_of_client client live ≡ o
+  client_free_after_former : (live : List Session) (o : Option Session) → session_of_client client live ≡ o
       → IsDistinct is_same_text (map (λ (s : Session). s.client) live)
       → session_of_client client (after_former (option_map (λ (s : Session). s.serial) o) live) ≡ None
-  freed live None e apart = e
-  freed live (Some s) e apart = client_freed live client s apart e
+  client_free_after_former live None e apart = e
+  client_free_after_former live (Some s) e apart = client_freed live client s apart e
 
-least : (n : ℕ) → n < 2 ^ 64 - 1 → min (n + 1) (2 ^ 64 - 1) ≡ n + 1
-least n lt = omega (arith, lt)
+counter_goes_up : (n : ℕ) → n < 2 ^ 64 - 1 → min (n + 1) (2 ^ 64 - 1) ≡ n + 1
+counter_goes_up n lt = omega (arith, lt)
 
 wide_limit : (limit : Option ℕ) → IsWide (limit_of limit)
 wide_limit None = omega arith
@@ -178,7 +178,7 @@ module _ (a : Asking) (old new : Parts) (pending after : Pending) (random : ℕ)
     (serial : opening.serial ≡ min (old.sessions.counter + 1) (2 ^ 64 - 1)) (id : opening.id ≡ session_id opening.serial random)
     (next : old.sessions.counter < 2 ^ 64 - 1) where
   number : opening.serial ≡ old.sessions.counter + 1
-  number = serial ∙ least old.sessions.counter next
+  number = serial ∙ counter_goes_up old.sessions.counter next
 
   -- the session that is begun is the next one
   begun_is : (state : State) → state.counter ≡ old.sessions.counter → (moment : ℕ)
@@ -237,10 +237,10 @@ module _ (a : Asking) (old new : Parts) (pending after : Pending) (random : ℕ)
         room = let more = h.room in omega (arith, room, more);
         live = subst (λ l. IfSome former (λ n. IsLive n l)) (before ∙ live_is) live;
         none = subst (λ l. session_of_client opening.client (after_former former l) ≡ None) live_is
-            (rw (owner, same_now) (freed table a.client (sessions_left a table) o refl
+            (rw (owner, same_now) (client_free_after_former table a.client (sessions_left a table) o refl
             (keys_filter is_same_text (λ (s : Session). s.client) (is_left a.ended) table.live whole.apart)));
         few = subst (λ l. length (after_former former l) < most_sessions) live_is
-            (rw same_now (fewer table a.client (sessions_left a table) o refl few test));
+            (rw same_now (room_after_former table a.client (sessions_left a table) o refl few test));
         counter = subst (λ n. n < 2 ^ 64 - 1) (sym counter_is) next;
         next = number ∙ ap (λ n. n + 1) (sym counter_is);
         wide = subst IsWide (sym counted) (wide_limit limit);

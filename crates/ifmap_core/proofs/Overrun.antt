@@ -178,24 +178,24 @@ grows_put m xs g =
     (filter_passes (λ y. is_gt (standing_order y m)) xs))
 
 module _ (n : ℕ) where
-  dropped : (p : machine.Standing → Bool) (y : machine.Standing) (ys : List machine.Standing) → (n == y.serial) ≡ true
+  drops_at_serial : (p : machine.Standing → Bool) (y : machine.Standing) (ys : List machine.Standing) → (n == y.serial) ≡ true
       → without_standing (n ∷ []) (filter p (y ∷ ys)) ≡ without_standing (n ∷ []) (filter p ys)
-  dropped p y ys hit = elim (cases_Bool (p y)) [ inl e ↦ rw (e, hit) refl | inr e ↦ rw e refl ]
+  drops_at_serial p y ys hit = elim (cases_Bool (p y)) [ inl e ↦ rw (e, hit) refl | inr e ↦ rw e refl ]
 
-  parted : (m : machine.Standing) → m.serial ≡ n → (ys : List machine.Standing) → Grows ys
+  parts_without_it : (m : machine.Standing) → m.serial ≡ n → (ys : List machine.Standing) → Grows ys
       → without_standing (n ∷ []) (filter (λ y. is_lt (standing_order y m)) ys)
       ++ without_standing (n ∷ []) (filter (λ y. is_gt (standing_order y m)) ys) ≡ without_standing (n ∷ []) ys
-  parted m own [] g = refl
-  parted m own (y ∷ ys) g =
+  parts_without_it m own [] g = refl
+  parts_without_it m own (y ∷ ys) g =
       let lower : machine.Standing → Bool = λ y. is_lt (standing_order y m) in
       let upper : machine.Standing → Bool = λ y. is_gt (standing_order y m) in
-      let rest = parted m own ys g.1 in
+      let rest = parts_without_it m own ys g.1 in
       elim (cases_order y.serial n) [
         | inl same ↦
             let hit : (n == y.serial) ≡ true = eq-eqb n y.serial (sym same) in
             let gone : without_standing (n ∷ []) (y ∷ ys) ≡ without_standing (n ∷ []) ys = rw hit refl in
-            ap (λ (t : List machine.Standing). t ++ without_standing (n ∷ []) (filter upper (y ∷ ys))) (dropped lower y ys hit)
-            ∙ ap (λ (t : List machine.Standing). without_standing (n ∷ []) (filter lower ys) ++ t) (dropped upper y ys hit)
+            ap (λ (t : List machine.Standing). t ++ without_standing (n ∷ []) (filter upper (y ∷ ys))) (drops_at_serial lower y ys hit)
+            ∙ ap (λ (t : List machine.Standing). without_standing (n ∷ []) (filter lower ys) ++ t) (drops_at_serial upper y ys hit)
             ∙ rest ∙ sym gone
         | inr apart ↦ elim apart [
           | inl less ↦
@@ -228,7 +228,7 @@ module _ (n : ℕ) where
       let upper : List machine.Standing = filter (λ y. is_gt (standing_order y m)) ys in
       let hit : (n == m.serial) ≡ true = eq-eqb n m.serial (sym own) in
       let goes : filter other (m ∷ upper) ≡ filter other upper = rw hit refl in
-      filter-append other lower (m ∷ upper) ∙ ap (λ (t : List machine.Standing). filter other lower ++ t) goes ∙ parted m own ys g
+      filter-append other lower (m ∷ upper) ∙ ap (λ (t : List machine.Standing). filter other lower ++ t) goes ∙ parts_without_it m own ys g
 
   others_dropped : (name : List ℕ) (ys : List machine.Standing)
       → without_standing (n ∷ []) (filter (λ x. not (is_of_name n name x)) ys) ≡ without_standing (n ∷ []) ys
@@ -236,7 +236,7 @@ module _ (n : ℕ) where
   others_dropped name (y ∷ ys) = elim (cases_Bool (y.serial == n)) [
     | inl hit ↦
         let turned : (n == y.serial) ≡ true = grind (arith, nat_tests, hit) in
-        dropped (λ x. not (is_of_name n name x)) y ys turned ∙ others_dropped name ys ∙ rw turned refl
+        drops_at_serial (λ x. not (is_of_name n name x)) y ys turned ∙ others_dropped name ys ∙ rw turned refl
     | inr miss ↦
         let turned : (n == y.serial) ≡ false = grind (arith, nat_tests, miss) in
         rw (miss, turned) (ap (λ t. y ∷ t) (others_dropped name ys))

@@ -1,7 +1,7 @@
 -- When the step of the machine refuses, and with which code.
 -- 1. What is done within a session refuses for its own cause alone, if at all: a search, a purge, a
 --    poll, a subscribe (`search_refuses` to `subscribe_leaves`).
--- 2. A request in a session refuses for want of it (`missing`), as another's (`denied`), or as what
+-- 2. A request in a session refuses for want of it (`missing`), as another's (`denies_another`), or as what
 --    is accepted does (`other`), and leaves the state (`leaves`); a poll likewise (`poll_missing`).
 -- 3. The causes of a search (`too_much`), of a subscribe (`no_room`) and of a new session
 --    (`none_left`).
@@ -146,10 +146,10 @@ module _ (state : State) (client : List ℕ) (accept : Session → State × Answ
       subst_refusal : (t u : Session) → t ≡ u → IsRefusal AccessDenied (accept t).1 → IsRefusal AccessDenied (accept u).1
       subst_refusal t u e h = rw (← e) h
 
-  denied : (o : Option Session) → ((s : Session) → IsRefusal AccessDenied (accept s).1 → ⊥)
+  denies_another : (o : Option Session) → ((s : Session) → IsRefusal AccessDenied (accept s).1 → ⊥)
       → IsRefusal AccessDenied (in_session state client o accept).1
       ↔ (((s : Session) × (Some o ≡ Some (Some s)) × (s.client ≢ client)) ⊎ ⊥)
-  denied o f = denied_here o ⊥ (λ s e own h. f s h) (λ bad. absurd bad)
+  denies_another o f = denied_here o ⊥ (λ s e own h. f s h) (λ bad. absurd bad)
 
   other : (o : Option Session) (code : Code) → (InvalidSessionID ≡ code → ⊥) → (AccessDenied ≡ code → ⊥)
       → ((s : Session) → IsRefusal code (accept s).1 → ⊥) → IsRefusal code (in_session state client o accept).1 → ⊥
@@ -178,8 +178,8 @@ module _ (state : State) (client : List ℕ) where
   poll_denied : (again : Bool) (o : Option Session) → IsRefusal AccessDenied (poll state client again o).1
       ↔ (((s : Session) × (Some o ≡ Some (Some s)) × (s.client ≢ client)) ⊎ ⊥)
   poll_denied true None = ((λ h. absurd h), (λ h. elim h [ inl there ↦ let bad = there.1 in cc | inr bad ↦ absurd bad ]))
-  poll_denied true (Some s) = denied state client (poll_in state true) (Some s) (λ t k. poll_never state true t AccessDenied k)
-  poll_denied false o = denied state client (poll_in state false) o (λ t k. poll_never state false t AccessDenied k)
+  poll_denied true (Some s) = denies_another state client (poll_in state true) (Some s) (λ t k. poll_never state true t AccessDenied k)
+  poll_denied false o = denies_another state client (poll_in state false) o (λ t k. poll_never state false t AccessDenied k)
 
   poll_other : (again : Bool) (o : Option Session) (code : Code) → (InvalidSessionID ≡ code → ⊥) → (AccessDenied ≡ code → ⊥)
       → IsRefusal code (poll state client again o).1 → ⊥
@@ -313,14 +313,14 @@ module _ (state : State) (event : Event) where
     (λ h. let bad : SystemError ≡ AccessDenied = (new_refuses state client event.random limit AccessDenied h).0 in cc),
     (λ h. elim h [ inl there ↦ let bad = there.1 in cc | inr bad ↦ absurd bad ]),
   )
-  access_denied (Request (the_request.RenewSession id)) = denied state client (renew_session state) (session_in state id) (λ s h. h)
-  access_denied (Request (the_request.EndSession id)) = denied state client (end_session state) (session_in state id) (λ s h. h)
-  access_denied (Request (the_request.Publish id ops)) = denied state client (publish state ops) (session_in state id) (λ s h. h)
+  access_denied (Request (the_request.RenewSession id)) = denies_another state client (renew_session state) (session_in state id) (λ s h. h)
+  access_denied (Request (the_request.EndSession id)) = denies_another state client (end_session state) (session_in state id) (λ s h. h)
+  access_denied (Request (the_request.Publish id ops)) = denies_another state client (publish state ops) (session_in state id) (λ s h. h)
   access_denied (Request (the_request.Search id asked)) =
-      denied state client (search state asked) (session_in state id)
+      denies_another state client (search state asked) (session_in state id)
       (λ s h. let bad : SearchResultsTooBig ≡ AccessDenied = (search_refuses state asked s AccessDenied h).0 in cc)
   access_denied (Request (the_request.Subscribe id ops)) =
-      denied state client (subscribe state ops) (session_in state id)
+      denies_another state client (subscribe state ops) (session_in state id)
       (λ s h. let bad : SystemError ≡ AccessDenied = (subscribe_refuses state s (told_by_ops state ops s) AccessDenied h).0 in cc)
   access_denied (Request (the_request.Poll id)) = poll_denied state client event.again (session_in state id)
   access_denied (Request (the_request.PurgePublisher id publisher)) =

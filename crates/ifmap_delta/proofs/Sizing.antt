@@ -101,9 +101,9 @@ tied_size : (x y : Entry) → entry_order x y ≡ Equal → entry_size x ≡ ent
 tied_size x y e = same_size x y (entries_tie x y ∙ ap is_eq e)
 
 -- what one list shares with another meets what that one shares with it
-shared : (a b : List Entry) (x : Entry) → Has (filter (has_entry b) a) x
+shared_meets_shared : (a b : List Entry) (x : Entry) → Has (filter (has_entry b) a) x
     → (y : Entry) × Has (filter (has_entry a) b) y × (entry_order x y ≡ Equal)
-shared a b x h =
+shared_meets_shared a b x h =
     let f = filter_has (has_entry b) a x h
     in let y = any_has (same_entry x) b f.1
     in let turned : same_entry y.0 x ≡ true = same_turned y.0 x ∙ y.2
@@ -125,5 +125,5 @@ sizes_differ a b r q before after is sums =
       sum_by-filter_both (has_entry a) (λ x. not (has_entry a x)) (λ x. refl) entry_size b,
       one_sum entry_order entries_total entry_size tied_size (filter (has_entry b) a) (filter (has_entry a) b)
           (IsStrictlySortedBy-filter entry_order (has_entry b) a r) (IsStrictlySortedBy-filter entry_order (has_entry a) b q)
-          (shared a b) (shared b a),
+          (shared_meets_shared a b) (shared_meets_shared b a),
     )

@@ -1,7 +1,7 @@
 -- What is told item by item is the difference of the results.
 -- 1. Rows tie in their order exactly where their entries have the same bytes (`tie_bytes`).
 -- 2. What is left out on one item is a filter of what is stored there (`one_item`).
--- 3. So entries of items, one after the other, are a filtered list of attachments (`joined`).
+-- 3. So entries of items, one after the other, are a filtered list of attachments (`entries_are_gathered`).
 -- 4. Whether the other result has the entry of an attachment (`in_other`), and so that the two
 --    filters agree on each (`pointwise`).
 -- 5. So what is left out item by item is the difference of the results (`difference_is`).
@@ -97,14 +97,14 @@ module _ (tells : BytesTellIdentifiers) (one other : ViewSeen) (s : Search) (gra
   abbrev entries_left : List Item → List Entry
   entries_left = surplus_on s.result_filter (shown_on one.rows s) (shown_on other.rows s)
 
-  joined : (is : List Item) → entries_left is ≡ map row_entry (filter is_lacked (gathered_rows one.rows is))
-  joined [] = refl
-  joined (x ∷ xs) =
+  entries_are_gathered : (is : List Item) → entries_left is ≡ map row_entry (filter is_lacked (gathered_rows one.rows is))
+  entries_are_gathered [] = refl
+  entries_are_gathered (x ∷ xs) =
       ap (λ l. l ++ entries_left xs)
       (one_item x (is_looked_at one.rows s x) (λ t. is_met t && not (has_met s.result_filter (shown_on other.rows s x) t)) is_lacked
       (λ t. refl)
       (stored_on x one.rows))
-      ∙ ap (λ l. map row_entry (filter is_lacked (map (row_on x) (stored_on x one.rows))) ++ l) (joined xs)
+      ∙ ap (λ l. map row_entry (filter is_lacked (map (row_on x) (stored_on x one.rows))) ++ l) (entries_are_gathered xs)
       ∙ sym (map-append row_entry (filter is_lacked (map (row_on x) (stored_on x one.rows))) (filter is_lacked (gathered_rows one.rows xs)))
       ∙ sym (ap (map row_entry) (filter-append is_lacked (map (row_on x) (stored_on x one.rows)) (gathered_rows one.rows xs)))
 
@@ -196,7 +196,7 @@ module _ (tells : BytesTellIdentifiers) (one other : ViewSeen) (s : Search) (gra
     -- what is left out item by item is the difference of the results
     pub difference_is : entries_left items ≡ difference (fresh one.rows s) (fresh other.rows s)
     difference_is =
-        joined items
+        entries_are_gathered items
         ∙ ap (λ l. map row_entry (filter is_lacked l))
         (gathers tells one.rows items graph.items (all_items items canon) (items_grouped one.rows graph.rising) rising)
         ∙ ap (map row_entry) (filter_twice (λ (r : Attachment). has_item items r.item) is_lacked one.rows

@@ -73,8 +73,8 @@ module _ {H : Type 0} (gives : ℕ → Type 0) (before after : DeskSeen H) (ques
     (first : (moment : ℕ) × gives moment × (event ≡ event_of_question question false moment))
     (other : (session : List ℕ) → question.request ≢ Polling session)
     (took : (turn : Turn) × (turn.event ≡ event) × (answer ≡ outcome_of turn.asked) × DeskTakesTurns before after (turn ∷ [])) where
-  begun : Waits gives before before question 0 event
-  begun = waits_first gives before question event first
+  waits_from_before : Waits gives before before question 0 event
+  waits_from_before = waits_first gives before question event first
 
   is_ask : (turn : Turn) → turn.event ≡ event → turn.event.ask ≡ (event_of_question question false 0).ask
   is_ask turn asks = let (moment, given, is) = first in ap (λ (e : Event). e.ask) asks ∙ ap (λ (e : Event). e.ask) is
@@ -83,19 +83,19 @@ module _ {H : Type 0} (gives : ℕ → Type 0) (before after : DeskSeen H) (ques
       → FindsQuestion gives before after question (finding.Replied the_reply)
   once_replied the_reply is =
       let (turn, asks, went, tells) = took in
-      finds_replied gives before before after question 0 event begun turn asks tells the_reply (sym went ∙ is)
+      finds_replied gives before before after question 0 event waits_from_before turn asks tells the_reply (sym went ∙ is)
       (not_told turn.event question.request turn.asked the_reply (is_ask turn asks) other (fits_one before after turn tells)
       (sym went ∙ is))
 
   pub once_spent : (entries : ℕ) → answer ≡ outcome.Spent entries → FindsQuestion gives before after question (finding.Spent entries)
   once_spent entries is =
       let (turn, asks, went, tells) = took in
-      finds_spent gives before before after question 0 event begun turn asks tells entries (sym went ∙ is)
+      finds_spent gives before before after question 0 event waits_from_before turn asks tells entries (sym went ∙ is)
 
   pub once_wanting : answer ≡ outcome.NoMemory → FindsQuestion gives before after question finding.NoMemory
   once_wanting is =
       let (turn, asks, went, tells) = took in
-      finds_wanting gives before before after question 0 event begun turn asks tells (sym went ∙ is)
+      finds_wanting gives before before after question 0 event waits_from_before turn asks tells (sym went ∙ is)
 
   pub once_not_held : answer ≢ outcome.Held
   once_not_held is =

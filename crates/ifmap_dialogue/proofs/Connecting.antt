@@ -132,8 +132,8 @@ module _ {H : Type 0} (gives : ℕ → Type 0) (number : ℕ) (desk : DeskSeen H
 
 module _ {H : Type 0} (gives : ℕ → Type 0) (number : ℕ) (desk : DeskSeen H) (words : ChaCha) (before after : WireSeen)
     (r : HasRead before after) where
-  kept : Appends before.held after.held []
-  kept = subst (λ (h : Option (List ℕ)). Appends h after.held []) r.held (Appends-nil after.held)
+  appends_nothing : Appends before.held after.held []
+  appends_nothing = subst (λ (h : Option (List ℕ)). Appends h after.held []) r.held (Appends-nil after.held)
 
   ends_at_once : (end : Ending) → end ≢ ending.WriteFault → (end ≡ ending.ReadFault → Rose before.read_faults after.read_faults)
       → HasCauses before after (Some end)
@@ -160,7 +160,7 @@ module _ {H : Type 0} (gives : ℕ → Type 0) (number : ℕ) (desk : DeskSeen H
     turns = [];
     output = [];
     tells = tells_none desk;
-    gains = kept;
+    gains = appends_nothing;
     causes = causes;
     round = (the_got, reads, follows);
   }

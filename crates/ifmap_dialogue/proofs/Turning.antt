@@ -213,9 +213,9 @@ module _ {H : Type 0} (gives : ℕ → Type 0) (before now after : DeskSeen H) (
 module _ {H : Type 0} (gives : ℕ → Type 0) (before now after : DeskSeen H) (poll : Poll) (many : ℕ) (event : Event)
     (w : Waits gives before now (question_of poll) many event) (turn : Turn) (asks : turn.event ≡ event)
     (tells : DeskTakesTurns now after (turn ∷ [])) where
-  plain : (the_reply : Reply) → outcome_of turn.asked ≡ outcome.Replied the_reply → IsNotPolled the_reply
+  finds_plain_reply : (the_reply : Reply) → outcome_of turn.asked ≡ outcome.Replied the_reply → IsNotPolled the_reply
       → FindsQuestion gives before after (question_of poll) (finding.Replied the_reply)
-  plain = finds_replied gives before now after (question_of poll) many event w turn asks tells
+  finds_plain_reply = finds_replied gives before now after (question_of poll) many event w turn asks tells
 
   pub finds_answered : (the_reply : Reply) → outcome_of turn.asked ≡ outcome.Replied the_reply
       → FindsQuestion gives before after (question_of poll) (finding_of the_reply poll)
@@ -228,14 +228,14 @@ module _ {H : Type 0} (gives : ℕ → Type 0) (before now after : DeskSeen H) (
       (items, refl),
     );
   }
-  finds_answered (reply.NewSession a b c) is = plain (reply.NewSession a b c) is (λ items e. cc)
-  finds_answered reply.Renewed is = plain reply.Renewed is (λ items e. cc)
-  finds_answered reply.Ended is = plain reply.Ended is (λ items e. cc)
-  finds_answered reply.Published is = plain reply.Published is (λ items e. cc)
-  finds_answered reply.Subscribed is = plain reply.Subscribed is (λ items e. cc)
-  finds_answered reply.Purged is = plain reply.Purged is (λ items e. cc)
-  finds_answered (reply.Found entries) is = plain (reply.Found entries) is (λ items e. cc)
-  finds_answered (reply.Error code note) is = plain (reply.Error code note) is (λ items e. cc)
+  finds_answered (reply.NewSession a b c) is = finds_plain_reply (reply.NewSession a b c) is (λ items e. cc)
+  finds_answered reply.Renewed is = finds_plain_reply reply.Renewed is (λ items e. cc)
+  finds_answered reply.Ended is = finds_plain_reply reply.Ended is (λ items e. cc)
+  finds_answered reply.Published is = finds_plain_reply reply.Published is (λ items e. cc)
+  finds_answered reply.Subscribed is = finds_plain_reply reply.Subscribed is (λ items e. cc)
+  finds_answered reply.Purged is = finds_plain_reply reply.Purged is (λ items e. cc)
+  finds_answered (reply.Found entries) is = finds_plain_reply (reply.Found entries) is (λ items e. cc)
+  finds_answered (reply.Error code note) is = finds_plain_reply (reply.Error code note) is (λ items e. cc)
 
   -- what came of the poll, as it is told apart by the reply
   pub finds_polled : (the_reply : Reply) (found : Finding) → found ≡ finding_of the_reply poll

@@ -22,19 +22,20 @@ use Rattle.ifmap_filter.specs.Printing.{PredicateText, ands_text, attribute_text
 
 module _ (space : List ℕ) (spaces : List (List ℕ)) (i : ℕ) (other : List ℕ) (here : i < length spaces)
     (is : other ≡ get_or spaces i other) where
-  left : space_place space (drop i spaces) ≡ cond (not (bytes_eq other space)) (1 + space_place space (drop (i + 1) spaces)) 0
-  left =
+  place_here : space_place space (drop i spaces) ≡ cond (not (bytes_eq other space)) (1 + space_place space (drop (i + 1) spaces)) 0
+  place_here =
       ap (space_place space) (drop-cons spaces i other here) ∙ ap (λ o. space_place space (o ∷ drop (suc i) spaces)) (sym is)
       ∙ ap (λ k. cond (not (bytes_eq other space)) (1 + space_place space (drop k spaces)) 0) (sym (add-one i))
 
   pub at_place : bytes_eq other space ≡ true → space_place space spaces ≡ i + space_place space (drop i spaces)
       → i ≡ space_place space spaces
-  at_place e was = let stop : space_place space (drop i spaces) ≡ 0 = left ∙ rw e refl in omega (arith, was, stop)
+  at_place e was = let stop : space_place space (drop i spaces) ≡ 0 = place_here ∙ rw e refl in omega (arith, was, stop)
 
   pub past_place : bytes_eq other space ≡ false → space_place space spaces ≡ i + space_place space (drop i spaces)
       → space_place space spaces ≡ (i + 1) + space_place space (drop (i + 1) spaces)
   past_place e was =
-      let on : space_place space (drop i spaces) ≡ 1 + space_place space (drop (i + 1) spaces) = left ∙ rw e refl in omega (arith, was, on)
+      let on : space_place space (drop i spaces) ≡ 1 + space_place space (drop (i + 1) spaces) = place_here ∙ rw e refl in
+      omega (arith, was, on)
 
 pub no_place : (space : List ℕ) (spaces : List (List ℕ)) (i : ℕ) → length spaces ≤ i → i ≤ length spaces
     → space_place space spaces ≡ i + space_place space (drop i spaces) → length spaces ≡ space_place space spaces

@@ -81,11 +81,11 @@ each_more spaces more (s ∷ these) h =
     let parts = and_parts (has_space spaces s) (has_each spaces these) h in
     rw (had_more spaces more s parts.0, each_more spaces more these parts.1) refl
 
-kept : (spaces : List (List ℕ)) (s : List ℕ) → has_space spaces s ≡ true → with_space spaces s ≡ spaces
-kept spaces s e = rw e refl
+known_space_stays : (spaces : List (List ℕ)) (s : List ℕ) → has_space spaces s ≡ true → with_space spaces s ≡ spaces
+known_space_stays spaces s e = rw e refl
 
-put : (spaces : List (List ℕ)) (s : List ℕ) → has_space spaces s ≡ false → with_space spaces s ≡ spaces ++ s ∷ []
-put spaces s e = rw e refl
+new_space_is_last : (spaces : List (List ℕ)) (s : List ℕ) → has_space spaces s ≡ false → with_space spaces s ≡ spaces ++ s ∷ []
+new_space_is_last spaces s e = rw e refl
 
 had_last : (spaces : List (List ℕ)) (s : List ℕ) → has_space (spaces ++ s ∷ []) s ≡ true
 had_last spaces s = elim (cases_Bool (bytes_eq s [])) [
@@ -98,14 +98,14 @@ had_last spaces s = elim (cases_Bool (bytes_eq s [])) [
 
 had_with : (spaces : List (List ℕ)) (s : List ℕ) → has_space (with_space spaces s) s ≡ true
 had_with spaces s = elim (cases_Bool (has_space spaces s)) [
-  | inl e ↦ subst (λ l. has_space l s ≡ true) (sym (kept spaces s e)) e
-  | inr e ↦ subst (λ l. has_space l s ≡ true) (sym (put spaces s e)) (had_last spaces s)
+  | inl e ↦ subst (λ l. has_space l s ≡ true) (sym (known_space_stays spaces s e)) e
+  | inr e ↦ subst (λ l. has_space l s ≡ true) (sym (new_space_is_last spaces s e)) (had_last spaces s)
 ]
 
 front_with : (spaces : List (List ℕ)) (s : List ℕ) → IsFront spaces (with_space spaces s)
 front_with spaces s = elim (cases_Bool (has_space spaces s)) [
-  | inl e ↦ ([], kept spaces s e ∙ sym (append-nil spaces))
-  | inr e ↦ (s ∷ [], put spaces s e)
+  | inl e ↦ ([], known_space_stays spaces s e ∙ sym (append-nil spaces))
+  | inr e ↦ (s ∷ [], new_space_is_last spaces s e)
 ]
 
 pub front_each : (spaces these : List (List ℕ)) → IsFront spaces (with_each spaces these)
@@ -138,7 +138,7 @@ module _ (spaces : List (List ℕ)) (s : List ℕ) where
   Adds all = AddsSpaces spaces (s ∷ []) all
 
   kept_adds : has_space spaces s ≡ true → Adds spaces → Adds (with_space spaces s)
-  kept_adds h a = subst Adds (sym (kept spaces s h)) a
+  kept_adds h a = subst Adds (sym (known_space_stays spaces s h)) a
 
   adds_with : Adds (with_space spaces s)
   adds_with = elim (cases_Bool (bytes_eq s [])) [
@@ -147,7 +147,7 @@ module _ (spaces : List (List ℕ)) (s : List ℕ) where
       | inl f ↦ kept_adds (rw (e, f) refl) (adds_undeclared spaces s (xml_declared s e f))
       | inr f ↦ elim (cases_Bool (list_any (bytes_eq s) spaces)) [
         | inl g ↦ kept_adds (rw (e, f, g) refl) (adds_known spaces s (other_declared s e f) g)
-        | inr g ↦ subst Adds (sym (put spaces s (rw (e, f, g) refl))) (adds_new spaces s (other_declared s e f) g)
+        | inr g ↦ subst Adds (sym (new_space_is_last spaces s (rw (e, f, g) refl))) (adds_new spaces s (other_declared s e f) g)
       ]
     ]
   ]

@@ -10,8 +10,8 @@ use Rattle.ifmap_lemmas.specs.Numbers.{is_other}
 use Rattle.ifmap_elem.specs.declared.elements.Child.{Child}
 use Rattle.ifmap_filter.specs.Holding.{own_text, text_among}
 
-cancelled : (own t left rest : List ℕ) → left ≡ own ++ rest → bytes_eq (own ++ t) left ≡ bytes_eq t rest
-cancelled own t left rest is =
+front_cancels : (own t left rest : List ℕ) → left ≡ own ++ rest → bytes_eq (own ++ t) left ≡ bytes_eq t rest
+front_cancels own t left rest is =
     both_ways (bytes_eq (own ++ t) left) (bytes_eq t rest)
     (λ h. (bytes_eq-Decides t rest).1 (append_cancel_left own t rest ((bytes_eq-Decides (own ++ t) left).0 h ∙ is)))
     (λ h. (bytes_eq-Decides (own ++ t) left).1 (ap (λ x. own ++ x) ((bytes_eq-Decides t rest).0 h) ∙ sym is))
@@ -32,7 +32,7 @@ module _ (children : List Child) (i : ℕ) (child : Child) (here : i < length ch
   pub one_child_more : (left rest : List ℕ) → left ≡ own_text child ++ rest
       → bytes_eq (text_among (drop i children)) left ≡ bytes_eq (text_among (drop (i + 1) children)) rest
   one_child_more left rest taken =
-      ap (λ text. bytes_eq text left) among ∙ cancelled (own_text child) (text_among (drop (i + 1) children)) left rest taken
+      ap (λ text. bytes_eq text left) among ∙ front_cancels (own_text child) (text_among (drop (i + 1) children)) left rest taken
 
   pub another_child : (left : List ℕ) → ((rest : List ℕ) → left ≡ own_text child ++ rest → ⊥)
       → bytes_eq (text_among (drop i children)) left ≡ false

@@ -19,25 +19,25 @@ use Rattle.ifmap_graph.proofs.Shelving.{nothing_placed}
 
 -- no number has an entry
 module _ (names : Holdings Identifier) (none : (v : ℕ) → entry_at names v ≡ None) where
-  unnamed : (v : ℕ) (a : Identifier) → Names identifier_order names v a → ⊥
-  unnamed v a n = none-some _ (sym (none v) ∙ n.1)
+  has_no_name : (v : ℕ) (a : Identifier) → Names identifier_order names v a → ⊥
+  has_no_name v a n = none-some _ (sym (none v) ∙ n.1)
 
-  unlived : (v : ℕ) → IsSome (entry_at names v) → ⊥
-  unlived v s = let q : IsSome {T = Identifier × ℕ} None = subst (λ (o : Option (Identifier × ℕ)). IsSome o) (none v) s in cc
+  has_no_entry : (v : ℕ) → IsSome (entry_at names v) → ⊥
+  has_no_entry v s = let q : IsSome {T = Identifier × ℕ} None = subst (λ (o : Option (Identifier × ℕ)). IsSome o) (none v) s in cc
 
   pub no_pool : IsPool identifier_order names
   no_pool = record {
-    one_to_one = λ v w a n m. absurd (unnamed v a n);
-    below = λ v s. absurd (unlived v s);
-    held = λ v s. absurd (unlived v s);
+    one_to_one = λ v w a n m. absurd (has_no_name v a n);
+    below = λ v s. absurd (has_no_entry v s);
+    held = λ v s. absurd (has_no_entry v s);
   }
 
-  unkeyed : (v : ℕ) (a : Identifier) → key_at names v ≡ Some a → ⊥
-  unkeyed v a e = none-some _ (sym (ap (λ o. option_map (λ x. x.0) o) (none v)) ∙ e)
+  has_no_key : (v : ℕ) (a : Identifier) → key_at names v ≡ Some a → ⊥
+  has_no_key v a e = none-some _ (sym (ap (λ o. option_map (λ x. x.0) o) (none v)) ∙ e)
 
   -- nobody holds an identifier
   pub no_own : (a : Identifier) → IsHeld identifier_order names a 0
-  no_own a = inr (λ v n. unnamed v a n, refl)
+  no_own a = inr (λ v n. has_no_name v a n, refl)
 
   -- nothing has a draft
   pub no_still : IsStill (record { shelves = []; names = names; links = []; places = [] })
@@ -63,9 +63,9 @@ module _ (names : Holdings Identifier) (none : (v : ℕ) → entry_at names v �
       used = λ at s. let q : IsSome {T = Shelf} None = subst (λ (o : Option Shelf). IsSome o) (vacant at) s in cc;
       numbered = tt;
       pool = no_pool;
-      keys = λ v a e. absurd (unkeyed v a e);
-      held = λ a. (0, inr (λ v n. unnamed v a n, refl));
-      table = λ v s. absurd (unlived v s);
+      keys = λ v a e. absurd (has_no_key v a e);
+      held = λ a. (0, inr (λ v n. has_no_name v a n, refl));
+      table = λ v s. absurd (has_no_entry v s);
       side = no_side list_now (links_at list_now []) (λ v. refl);
       next_side = no_side list_next (links_at list_next []) (λ v. refl);
     }

@@ -120,11 +120,11 @@ module _ {X : Type 0} (list_of : X → List Stored) (es : List (Item × X)) (ris
   stands item at h = found list_of item es at rising (entry_hits es item at rising h)
 
   -- what carries an attachment ties with an entry after the bound, where it is above it
-  carried : (other : Item) → IsAbove after other → stored_on other (rows_by list_of es) ≢ [] → (o : Option X)
+  carrier_ties_with_entry : (other : Item) → IsAbove after other → stored_on other (rows_by list_of es) ≢ [] → (o : Option X)
       → lookup (is_at (item_order other)) es ≡ o
       → (k : Item) × (at : X) × Has (entries_after after es) (k, at) × (list_of at ≢ []) × (item_order other k ≡ Equal)
-  carried other a n None e = absurd (n (sym (absent list_of other es e)))
-  carried other a n (Some at) e =
+  carrier_ties_with_entry other a n None e = absurd (n (sym (absent list_of other es e)))
+  carrier_ties_with_entry other a n (Some at) e =
       let h = looked_up es other at e
       in (
         h.0,
@@ -144,7 +144,7 @@ module _ {X : Type 0} (list_of : X → List Stored) (es : List (Item × X)) (ris
         above = mine.1;
         carries = λ m. f.full (stands item f.at mine.0 ∙ m);
         least = λ other a n l.
-            let c = carried other a n _ refl
+            let c = carrier_ties_with_entry other a n _ refl
             in let below : item_order c.0 item ≡ Less = sym (items_total.congr other c.0 item c.4) ∙ l
             in elim (part_of f.before f.rest (item, f.at) (c.0, c.1) (subst (λ l. Has l (c.0, c.1)) f.split c.2)) [
               | inl p ↦ c.3 (empty_of list_of f.before (c.0, c.1) f.empty p)
@@ -171,5 +171,5 @@ module _ {X : Type 0} (list_of : X → List Stored) (es : List (Item × X)) (ris
       by : (l : List Stored) → stored_on other (rows_by list_of es) ≡ l → stored_on other (rows_by list_of es) ≡ []
       by [] q = q
       by (x ∷ xs) q =
-          let c = carried other a (λ m. (let r : x ∷ xs ≡ [] = sym q ∙ m in cc)) _ refl
+          let c = carrier_ties_with_entry other a (λ m. (let r : x ∷ xs ≡ [] = sym q ∙ m in cc)) _ refl
           in absurd (c.3 (empty_of list_of (entries_after after es) (c.0, c.1) e c.2))

@@ -26,8 +26,8 @@ use Rattle.ifmap_graph.proofs.Finding.{all_left, leaves}
 use Rattle.ifmap_graph.proofs.Shelving.{Entries, slots_of}
 use Rattle.ifmap_view.specs.Attachments.{row_on}
 
-swapped : (x y z : ℕ) → x + (y + z) ≡ y + (x + z)
-swapped x y z = omega arith
+sum_swaps : (x y z : ℕ) → x + (y + z) ≡ y + (x + z)
+sum_swaps x y z = omega arith
 
 -- a new entry counts once for each identifier that it names
 pub comes : (es : Entries) (item : Item) (at : ℕ) (a : Identifier) → lookup (is_at (item_order item)) es ≡ None
@@ -44,7 +44,7 @@ comes (e ∷ es) item at a h = by (item_order item e.0) refl (comes es item at a
     by Greater is rest =
         let t : is_at (item_order item) e.0 ≡ false = ap is_eq is
         in let q : uses_in (insert_entry item_order es item at) a ≡ uses_of item a + uses_in es a = rest (rw t at h)
-        in ap (λ n. uses_of e.0 a + n) q ∙ swapped (uses_of e.0 a) (uses_of item a) (uses_in es a)
+        in ap (λ n. uses_of e.0 a + n) q ∙ sum_swaps (uses_of e.0 a) (uses_of item a) (uses_in es a)
 
 once_alike : (a b other : Identifier) → Alike a b → once identifier_order a other ≡ once identifier_order b other
 once_alike a b other e = ap (λ o. cond (is_eq o) 1 0) (order_alike b other a other e refl)
@@ -65,7 +65,7 @@ goes [] item at a h = absurd (none-some _ h)
 goes (e ∷ es) item at a h = elim (cases_Bool (is_at (item_order item) e.0)) [
   | inl t ↦ rw t (ap (λ n. n + uses_in es a) (sym (named_tied item e.0 a ((Equal-is (item_order item e.0)).0 t))))
   | inr t ↦ let q : uses_of item a + uses_in (remove_entry (is_at (item_order item)) es) a ≡ uses_in es a = goes es item at a (rw t at h)
-      in rw t (swapped (uses_of item a) (uses_of e.0 a) (uses_in (remove_entry (is_at (item_order item)) es) a)
+      in rw t (sum_swaps (uses_of item a) (uses_of e.0 a) (uses_in (remove_entry (is_at (item_order item)) es) a)
       ∙ ap (λ n. uses_of e.0 a + n) q)
 ]
 

@@ -33,11 +33,11 @@ far_ends p v w e = elim (cases_eq p.0 v) [
 ]
 
 -- what is picked at a place
-picked : (b : Bool) (at : ℕ) (o : Option ℕ) (seen : LinkSeen) → cond b (seen_at at o) None ≡ Some seen → (b ≡ true)
+picked_is_seen : (b : Bool) (at : ℕ) (o : Option ℕ) (seen : LinkSeen) → cond b (seen_at at o) None ≡ Some seen → (b ≡ true)
     × (o ≡ Some seen.other) × (at ≡ seen.at)
-picked false at o seen e = absurd (none-some _ e)
-picked true at None seen e = absurd (none-some _ e)
-picked true at (Some w) seen e = let q : record { other = w; at = at } ≡ seen = same_Some _ _ e in (
+picked_is_seen false at o seen e = absurd (none-some _ e)
+picked_is_seen true at None seen e = absurd (none-some _ e)
+picked_is_seen true at (Some w) seen e = let q : record { other = w; at = at } ≡ seen = same_Some _ _ e in (
   refl,
   ap (λ s. Some s.other) q,
   ap
@@ -77,7 +77,7 @@ module _ (joins : ℕ → Option (ℕ × ℕ)) where
           | inl a ↦ let h = filter_has (λ l. after l.at) (links v) seen (has_from _ _ a)
               in ((old.only v seen (from_has (links v) seen h.0)).0, h.1)
           | inr b ↦ let h = mapped_has (pick v) touched seen (has_from _ _ b)
-              in let p = picked (after h.0 && not (before h.0)) h.0 (far_of (joins h.0) v) seen h.2
+              in let p = picked_is_seen (after h.0 && not (before h.0)) h.0 (far_of (joins h.0) v) seen h.2
               in let ends : JoinsNumbers joins h.0 v seen.other = far_is h.0 v seen.other (joins h.0) refl p.1
               in (
                 subst (λ at. JoinsNumbers joins at v seen.other) p.2 ends,

@@ -30,8 +30,8 @@ pub record AreReleased (items : List Item) (old new : GraphInside) : Type 0 wher
 
 module _ (names left : Holdings Identifier) (s t : Shelves) (links : List (Sides LinkSeen)) (items : List Item)
     (less : IsLess names left s t) (is : AreShelved s) (waits : WaitsFor items t s) (filled : AreFilled s → AreFilled t) where
-  released : IsStill (inside_of names s links) → AreReleased items (inside_of names s links) (inside_of left t links)
-  released still =
+  releases_still : IsStill (inside_of names s links) → AreReleased items (inside_of names s links) (inside_of left t links)
+  releases_still still =
       let bare = bare_from names s links is still
       in let rows = less_now names left s t links less
       in let stay = less_stay names left s t links less
@@ -49,4 +49,4 @@ module _ (names left : Holdings Identifier) (s t : Shelves) (links : List (Sides
 
   pub are_released : {old : GraphInside} → inside_of names s links ≡ old → IsStill (inside_of names s links)
       → AreReleased items old (inside_of left t links)
-  are_released seen still = subst (λ (h : GraphInside). AreReleased items h (inside_of left t links)) seen (released still)
+  are_released seen still = subst (λ (h : GraphInside). AreReleased items h (inside_of left t links)) seen (releases_still still)

@@ -96,9 +96,9 @@ module _ (names : Holdings Identifier) (s t : Shelves) (links moved : List (Side
   lists_are = lists ∙ sym (map-map (λ i. stored_on i before) (λ (c : ItemChange). c.item) ready.plan.changes)
 
   -- what is stored now on an item of none of these
-  kept : (x : Item) → times_in items x ≡ 0
+  stays_stored : (x : Item) → times_in items x ≡ 0
       → stored_on x (rows_by (list_at list_now) (shown_shelves (get t.slots) t.places.entries)) ≡ stored_on x before
-  kept x e =
+  stays_stored x e =
       ap (stored_on x) (rows_shown list_now (get t.slots) t.places.entries ∙ rows)
       ∙ else_same s x is.placed (λ d. let w = out.within x d in has_times items x w.0 w.1 w.2 e)
       ∙ sym (ap (stored_on x) (rows_shown list_now (get s.slots) s.places.entries))
@@ -111,7 +111,8 @@ module _ (names : Holdings Identifier) (s t : Shelves) (links moved : List (Side
     graph = subst IsGraph (sym (rows_shown list_now (get s.slots) s.places.entries))
         (graph_is (λ at. list_at list_now (get s.slots at)) s.places.entries is.placed.rising is.placed.canon is.side.lists);
     stored = λ x.
-        sym (stands_again before items x (stored_on x (rows_by (list_at list_now) (shown_shelves (get t.slots) t.places.entries))) (kept x))
+        sym (stands_again before items x (stored_on x (rows_by (list_at list_now) (shown_shelves (get t.slots) t.places.entries)))
+        (stays_stored x))
         ∙ sym (ap (λ l. stand_each items l x (stored_on x (rows_by (list_at list_now) (shown_shelves (get t.slots) t.places.entries))))
         lists_are)
         ∙ sym (ap (λ l. stand_each l result.lists x

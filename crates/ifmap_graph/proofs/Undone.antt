@@ -61,15 +61,15 @@ module _ (names : Holdings Identifier) (look later : ℕ → Option Shelf) (es :
     (stands : (x : Item) → stored_on x (rows_by (λ at. list_at list_now (later at)) es)
     ≡ stand_each (items_changed u.plan.changes) u.lists x (stored_on x (rows_by (λ at. list_at list_now (look at)) es)))
     (turned : moved ≡ restore_each u.ways links) where
-  placed : IsPlaced later es
-  placed = placed_still look later ends es is.placed
+  later_is_placed : IsPlaced later es
+  later_is_placed = placed_still look later ends es is.placed
 
-  used : (at : ℕ) → IsSome (later at) → (item : Item) × Has es (item, at)
-  used = used_still look later ends es is.used
+  later_is_used : (at : ℕ) → IsSome (later at) → (item : Item) × Has es (item, at)
+  later_is_used = used_still look later ends es is.used
 
   -- on each item stands what is to stand there again
-  stored : (x : Item) → stored_on x (rows_by (λ at. list_at list_now (later at)) es) ≡ stored_on x rows
-  stored x =
+  stored_as_before : (x : Item) → stored_on x (rows_by (λ at. list_at list_now (later at)) es) ≡ stored_on x rows
+  stored_as_before x =
       stands x ∙ sym (ap (λ r. stand_each (items_changed u.plan.changes) u.lists x (stored_on x r)) (rows_shown list_now look es))
       ∙ sym (back.stored x)
 
@@ -82,8 +82,8 @@ module _ (names : Holdings Identifier) (look later : ℕ → Option Shelf) (es :
   lists : (xs : Entries) → ((e : Item × ℕ) → Has xs e → Has es e) → AllByRecursion (λ e. IsList (list_at list_now (later e.1))) xs
   lists [] f = tt
   lists (e ∷ xs) f = (
-    subst IsList (sym (found (λ at. list_at list_now (later at)) e.0 es e.1 placed.rising
-        (entry_hits es e.0 e.1 placed.rising (f e (inl refl))) ∙ stored e.0))
+    subst IsList (sym (found (λ at. list_at list_now (later at)) e.0 es e.1 later_is_placed.rising
+        (entry_hits es e.0 e.1 later_is_placed.rising (f e (inl refl))) ∙ stored_as_before e.0))
         (list_on e.0 rows back.graph),
     lists xs (λ x h. f x (inr h)),
   )
@@ -97,7 +97,7 @@ module _ (names : Holdings Identifier) (look later : ℕ → Option Shelf) (es :
   side : IsSide list_now later es (links_at list_now moved)
   side = record {
     lists = lists es (λ e h. h);
-    listed = links_by_slots later es names moved rows (links_at list_now moved) placed used stored slots;
+    listed = links_by_slots later es names moved rows (links_at list_now moved) later_is_placed later_is_used stored_as_before slots;
     once = slots.once;
   }
 
@@ -107,7 +107,7 @@ module _ (names : Holdings Identifier) (look later : ℕ → Option Shelf) (es :
       by : (o : Option Shelf) → later at ≡ o → NoDraft (later at)
       by None e = subst NoDraft (sym e) tt
       by (Some shelf) e =
-          let h = used at (subst (λ (o : Option Shelf). IsSome o) (sym e) refl)
+          let h = later_is_used at (subst (λ (o : Option Shelf). IsSome o) (sym e) refl)
           in all_has (λ (e : Item × ℕ). NoDraft (later e.1)) es bare (h.0, at) h.1
 
   next_side : IsSide list_next later es (links_at list_next moved)
@@ -123,8 +123,8 @@ module _ (names : Holdings Identifier) (look later : ℕ → Option Shelf) (es :
   back_rows tells =
       rows_shown list_now later es
       ∙ rows_same tells (rows_by (λ at. list_at list_now (later at)) es) rows
-      (graph_is (λ at. list_at list_now (later at)) es placed.rising placed.canon side.lists)
-      back.graph stored
+      (graph_is (λ at. list_at list_now (later at)) es later_is_placed.rising later_is_placed.canon side.lists)
+      back.graph stored_as_before
 
 -- items that are waited for have shelves
 pub all_there : (names : Holdings Identifier) (s : Shelves) (links : List (Sides LinkSeen)) (items : List Item)

@@ -65,8 +65,8 @@ module _ (list_of : ℕ → List Stored) (entries : List (Item × ℕ)) (id_at :
   abbrev rows : List Attachment
   rows = rows_by list_of entries
 
-  ordered : (a b : Identifier) (at : ℕ) → Has entries (Pair a b, at) → identifier_order a b ≡ Less
-  ordered a b at h = (all_has (λ e. IsCanonItem e.0) entries canon (Pair a b, at) h).ordered
+  pair_is_ordered : (a b : Identifier) (at : ℕ) → Has entries (Pair a b, at) → identifier_order a b ≡ Less
+  pair_is_ordered a b at h = (all_has (λ e. IsCanonItem e.0) entries canon (Pair a b, at) h).ordered
 
   -- what stands on the pair of two that are alike
   on_pair : (a b k m : Identifier) (at : ℕ) → Has entries (Pair a b, at) → Alike k a → Alike m b → list_of at ≡ stored_on (Pair k m) rows
@@ -78,14 +78,14 @@ module _ (list_of : ℕ → List Stored) (entries : List (Item × ℕ)) (id_at :
       let e = joined.only at v w j
       in on_pair e.0 e.1 e.3.0 e.4.0 at e.2 e.3.2 e.4.2
       ∙ sym (ap (λ o. stored_linked o (id_at w) rows) e.3.1 ∙ ap (λ o. stored_linked (Some e.3.0) o rows) e.4.1
-      ∙ ap (λ i. stored_where i rows) (pair_less e.0 e.1 e.3.0 e.4.0 e.3.2 e.4.2 (ordered e.0 e.1 at e.2)))
+      ∙ ap (λ i. stored_where i rows) (pair_less e.0 e.1 e.3.0 e.4.0 e.3.2 e.4.2 (pair_is_ordered e.0 e.1 at e.2)))
 
   on_turned : (at v w : ℕ) → joins at ≡ Some (w, v) → list_of at ≡ stored_linked (id_at v) (id_at w) rows
   on_turned at v w j =
       let e = joined.only at w v j
       in on_pair e.0 e.1 e.3.0 e.4.0 at e.2 e.3.2 e.4.2
       ∙ sym (ap (λ o. stored_linked o (id_at w) rows) e.4.1 ∙ ap (λ o. stored_linked (Some e.4.0) o rows) e.3.1
-      ∙ ap (λ i. stored_where i rows) (pair_more e.0 e.1 e.3.0 e.4.0 e.3.2 e.4.2 (ordered e.0 e.1 at e.2)))
+      ∙ ap (λ i. stored_where i rows) (pair_more e.0 e.1 e.3.0 e.4.0 e.3.2 e.4.2 (pair_is_ordered e.0 e.1 at e.2)))
 
   -- what a slot that joins two numbers has is what is stored between them
   pub on_place : (at v w : ℕ) → JoinsNumbers joins at v w → list_of at ≡ stored_linked (id_at v) (id_at w) rows
@@ -103,16 +103,16 @@ module _ (list_of : ℕ → List Stored) (entries : List (Item × ℕ)) (id_at :
       in subst (λ x. stored_linked (id_at v) (id_at x) rows ≢ []) s.2 (λ n. full_some (list_of s.0.at) l.1 (on_place s.0.at v s.0.other l.0
       ∙ n))
 
-  named : (v w at : ℕ) → JoinsNumbers joins at v w → is_not_empty (list_of at) ≡ true → Contains (others (links v)) w
-  named v w at j f = from_has _ _ (has_map (λ (l : LinkSeen). l.other) (links v) (record { other = w; at = at })
+  slot_is_link : (v w at : ℕ) → JoinsNumbers joins at v w → is_not_empty (list_of at) ≡ true → Contains (others (links v)) w
+  slot_is_link v w at j f = from_has _ _ (has_map (λ (l : LinkSeen). l.other) (links v) (record { other = w; at = at })
       (has_from _ _ (listed.each v w at j f)))
 
   -- what is stored on a pair stands at a slot that joins its numbers
-  placed : (k m : Identifier) → stored_on (Pair k m) rows ≢ [] → (o : Option ℕ) → lookup (is_at (item_order (Pair k m))) entries ≡ o
+  pair_has_slot : (k m : Identifier) → stored_on (Pair k m) rows ≢ [] → (o : Option ℕ) → lookup (is_at (item_order (Pair k m))) entries ≡ o
       → (at : ℕ) × (v : ℕ) × (w : ℕ) × (joins at ≡ Some (v, w)) × IsNumber id_at v k × IsNumber id_at w m ×
       (is_not_empty (list_of at) ≡ true)
-  placed k m n None e = absurd (n (sym (absent list_of (Pair k m) entries e)))
-  placed k m n (Some at) e =
+  pair_has_slot k m n None e = absurd (n (sym (absent list_of (Pair k m) entries e)))
+  pair_has_slot k m n (Some at) e =
       let h = looked_up entries (Pair k m) at e
       in let t = pair_tied k m h.0 h.2
       in let j = joined.pairs t.0 t.1 at (subst (λ i. Has entries (i, at)) t.2 h.1)
@@ -129,19 +129,19 @@ module _ (list_of : ℕ → List Stored) (entries : List (Item × ℕ)) (id_at :
   same_number : (v w : ℕ) (a : Identifier) → IsNumber id_at v a → id_at w ≡ Some a → v ≡ w
   same_number v w a n e = single v w n.0 a n.1 e n.2
 
-  between : (v w : ℕ) (a b : Identifier) → id_at v ≡ Some a → id_at w ≡ Some b → stored_between a b rows ≢ []
+  stored_is_link : (v w : ℕ) (a b : Identifier) → id_at v ≡ Some a → id_at w ≡ Some b → stored_between a b rows ≢ []
       → Contains (others (links v)) w
-  between v w a b p q n = by (identifier_order a b) refl
+  stored_is_link v w a b p q n = by (identifier_order a b) refl
     where
       by : (o : Ordering) → identifier_order a b ≡ o → Contains (others (links v)) w
       by Less is =
-          let x = placed a b (λ m. n (ap (λ o. stored_where (ordered_pair o a b) rows) is ∙ m)) _ refl
-          in named v w x.0 (inl (x.3 ∙ ap Some (ap (λ k. (k, x.2)) (same_number x.1 v a x.4 p) ∙ ap (λ k. (v, k))
+          let x = pair_has_slot a b (λ m. n (ap (λ o. stored_where (ordered_pair o a b) rows) is ∙ m)) _ refl
+          in slot_is_link v w x.0 (inl (x.3 ∙ ap Some (ap (λ k. (k, x.2)) (same_number x.1 v a x.4 p) ∙ ap (λ k. (v, k))
           (same_number x.2 w b x.5 q)))) x.6
       by Equal is = absurd (n (ap (λ o. stored_where (ordered_pair o a b) rows) is))
       by Greater is =
-          let x = placed b a (λ m. n (ap (λ o. stored_where (ordered_pair o a b) rows) is ∙ m)) _ refl
-          in named v w x.0 (inr (x.3 ∙ ap Some (ap (λ k. (k, x.2)) (same_number x.1 w b x.4 q) ∙ ap (λ k. (w, k))
+          let x = pair_has_slot b a (λ m. n (ap (λ o. stored_where (ordered_pair o a b) rows) is ∙ m)) _ refl
+          in slot_is_link v w x.0 (inr (x.3 ∙ ap Some (ap (λ k. (k, x.2)) (same_number x.1 w b x.4 q) ∙ ap (λ k. (w, k))
           (same_number x.2 v a x.5 p)))) x.6
 
   pub each : (v w : ℕ) → IsLink rows id_at v w → Contains (others (links v)) w
@@ -150,7 +150,7 @@ module _ (list_of : ℕ → List Stored) (entries : List (Item × ℕ)) (id_at :
       by : (a b : Option Identifier) → id_at v ≡ a → id_at w ≡ b → stored_linked a b rows ≢ [] → Contains (others (links v)) w
       by None b p q n = absurd (n refl)
       by (Some a) None p q n = absurd (n refl)
-      by (Some a) (Some b) p q n = between v w a b p q n
+      by (Some a) (Some b) p q n = stored_is_link v w a b p q n
 
   -- the number of an identifier, where bytes tell identifiers of elements apart
   module _ (tells : BytesTellIdentifiers) (keys : (v : ℕ) (a : Identifier) → id_at v ≡ Some a → IsIdentifier a) where
@@ -173,10 +173,10 @@ module _ (list_of : ℕ → List Stored) (entries : List (Item × ℕ)) (id_at :
     linked a b i n = by (identifier_order a b) refl
       where
         by : (o : Ordering) → identifier_order a b ≡ o → (w : ℕ) × (id_at w ≡ Some b)
-        by Less is = let x = placed a b (λ m. n (ap (λ o. stored_where (ordered_pair o a b) rows) is ∙ m)) _ refl in
+        by Less is = let x = pair_has_slot a b (λ m. n (ap (λ o. stored_where (ordered_pair o a b) rows) is ∙ m)) _ refl in
             (x.2, exact x.2 b i x.5)
         by Equal is = absurd (n (ap (λ o. stored_where (ordered_pair o a b) rows) is))
-        by Greater is = let x = placed b a (λ m. n (ap (λ o. stored_where (ordered_pair o a b) rows) is ∙ m)) _ refl in
+        by Greater is = let x = pair_has_slot b a (λ m. n (ap (λ o. stored_where (ordered_pair o a b) rows) is ∙ m)) _ refl in
             (x.1, exact x.1 b i x.4)
 
   -- one slot joins two numbers
@@ -192,19 +192,20 @@ module _ (list_of : ℕ → List Stored) (entries : List (Item × ℕ)) (id_at :
       in same_Some at bt (sym (entry_hits entries (Pair e.0 e.1) at rising e.2) ∙ lookup_tied (Pair e.0 e.1) (Pair f.0 f.1) entries t
       ∙ entry_hits entries (Pair f.0 f.1) bt rising f.2)
 
-  crossed : (at bt v w : ℕ) → joins at ≡ Some (v, w) → joins bt ≡ Some (w, v) → ⊥
-  crossed at bt v w j k =
+  never_crossed : (at bt v w : ℕ) → joins at ≡ Some (v, w) → joins bt ≡ Some (w, v) → ⊥
+  never_crossed at bt v w j k =
       let e = joined.only at v w j
       in let f = joined.only bt w v k
       in let back : identifier_order f.0 f.1 ≡ identifier_order e.1 e.0
       = order_alike e.1 e.0 f.0 f.1 (alike_of w f.0 e.1 f.3 e.4) (alike_of v f.1 e.0 f.4 e.3)
-      in let q : Less ≡ Greater = sym (ordered f.0 f.1 bt f.2) ∙ back ∙ turned_order e.1 e.0 ∙ ap ordering_reverse (ordered e.0 e.1 at e.2)
+      in let q : Less ≡ Greater =
+      sym (pair_is_ordered f.0 f.1 bt f.2) ∙ back ∙ turned_order e.1 e.0 ∙ ap ordering_reverse (pair_is_ordered e.0 e.1 at e.2)
       in cc
 
   one_slot : (at bt v w : ℕ) → JoinsNumbers joins at v w → JoinsNumbers joins bt v w → at ≡ bt
   one_slot at bt v w (inl j) (inl k) = straight at bt v w j k
-  one_slot at bt v w (inl j) (inr k) = absurd (crossed at bt v w j k)
-  one_slot at bt v w (inr j) (inl k) = absurd (crossed at bt w v j k)
+  one_slot at bt v w (inl j) (inr k) = absurd (never_crossed at bt v w j k)
+  one_slot at bt v w (inr j) (inl k) = absurd (never_crossed at bt w v j k)
   one_slot at bt v w (inr j) (inr k) = straight at bt w v j k
 
   -- so no other end is named twice, where no slot is

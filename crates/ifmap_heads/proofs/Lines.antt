@@ -86,16 +86,16 @@ no_newline b token = token_is_no_newline b token
 cons-append : (x : ℕ) (a b : List ℕ) → (x ∷ a) ++ b ≡ x ∷ (a ++ b)
 cons-append x a b = refl
 
-grouped : (a b c d e f g : List ℕ) → a ++ (b ++ space ∷ (c ++ space ∷ (d ++ (e ++ (f ++ g))))) ≡ a ++
+regroups : (a b c d e f g : List ℕ) → a ++ (b ++ space ∷ (c ++ space ∷ (d ++ (e ++ (f ++ g))))) ≡ a ++
     (b ++ ((space ∷ (c ++ space ∷ d)) ++ (e ++ (f ++ g))))
-grouped a b c d e f g = simp (append_assoc, cons-append)
+regroups a b c d e f g = simp (append_assoc, cons-append)
 
 pub lines_of_request : (h : RequestHead) → IsRequestHead h → length h.fields + 2 ≤ line_count (print_request h)
 lines_of_request h valid =
     let printed : print_request h ≡ print_blank h.blank ++
     (h.method ++ ((space ∷ (h.target ++ space ∷ print_version h.minor)) ++ (print_end h.line_end ++ print_section h.fields h.last))) =
     sym (append-nil (print_request h)) ∙ print_request-append h []
-    ∙ grouped (print_blank h.blank) h.method h.target (print_version h.minor) (print_end h.line_end) (print_section h.fields h.last) []
+    ∙ regroups (print_blank h.blank) h.method h.target (print_version h.minor) (print_end h.line_end) (print_section h.fields h.last) []
     ∙ ap (λ (xs : List ℕ). print_blank h.blank ++ (h.method ++ ((space ∷ (h.target ++ space ∷ print_version h.minor)) ++
     (print_end h.line_end ++ xs)))) (append-nil (print_section h.fields h.last)) in
     rw printed (by_method h.method valid.method)

@@ -35,13 +35,13 @@ skips_none : (v : List ℕ) → list_all is_ascii_graphic v ≡ true → skip_ow
 skips_none [] is = refl
 skips_none (b ∷ v) is = rw (no_space b (and_parts (is_ascii_graphic b) (list_all is_ascii_graphic v) is).0) refl
 
-turned : (v : List ℕ) → list_all is_ascii_graphic v ≡ true → list_all is_ascii_graphic (reverse v) ≡ true
-turned v is = list_all-from_AllPass is_ascii_graphic (reverse v)
+graphic_reversed : (v : List ℕ) → list_all is_ascii_graphic v ≡ true → list_all is_ascii_graphic (reverse v) ≡ true
+graphic_reversed v is = list_all-from_AllPass is_ascii_graphic (reverse v)
     (AllPass-reverse is_ascii_graphic v (AllPass-from_list_all is_ascii_graphic v is))
 
 -- a visible value is read as it was written
 value_stays : (name v : List ℕ) → list_all is_ascii_graphic v ≡ true → field_value (written_field name v) ≡ v
-value_stays name v is = trim_ows_space v (skips_none v is) (skips_none (reverse v) (turned v is))
+value_stays name v is = trim_ows_space v (skips_none v is) (skips_none (reverse v) (graphic_reversed v is))
 
 -- a name that is a token, by its test
 pub token_is : (name : List ℕ) → is_token name ≡ true → IsToken name

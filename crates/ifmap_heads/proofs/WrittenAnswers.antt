@@ -68,7 +68,7 @@ status_is_read number reason pairs bytes rest is three ten seen fit short few co
 abbrev closing_fields : Fields → Fields
 closing_fields pairs = pairs ++ (codes "content-length", codes "0") ∷ (codes "connection", codes "close") ∷ []
 
-plain : (number : ℕ) (body rest : List ℕ) (close : Bool)
+plain_answer_reads : (number : ℕ) (body rest : List ℕ) (close : Bool)
     → answer_bytes number body close ≡ print_response (head_of number (phrase number) (fields_of (closing_fields [])))
     → length (decimal number) ≡ 3 → list_all is_ascii_digit (decimal number) ≡ true
     → list_all is_value_byte (phrase number) ≡ true
@@ -76,7 +76,7 @@ plain : (number : ℕ) (body rest : List ℕ) (close : Bool)
     → status_code (head_of number (phrase number) (fields_of (closing_fields []))) ≡ number → (number == 200) ≡ false
     → ReadsAnswer (answer_bytes number body close ++ rest) (status number rest)
 unfolding is_token_byte
-plain number body rest close is three ten seen short code other_than =
+plain_answer_reads number body rest close is three ten seen short code other_than =
     status_is_read number (phrase number) (closing_fields [])
     (answer_bytes number body close) rest is three ten seen refl short refl code other_than
 
@@ -91,18 +91,18 @@ pub status_is_read_back : (number : ℕ) (body rest : List ℕ) (close : Bool) �
 unfolding print_response is_token_byte digits
 status_is_read_back number body rest close is other_than =
     either_leads _ (number == 507) is (λ e. rw (equal_numbers number 507 e)
-    (plain 507 body rest close refl refl refl refl refl refl refl)) (λ is.
+    (plain_answer_reads 507 body rest close refl refl refl refl refl refl refl)) (λ is.
     either_leads _ (number == 503) is (λ e. rw (equal_numbers number 503 e)
-    (plain 503 body rest close refl refl refl refl refl refl refl)) (λ is.
+    (plain_answer_reads 503 body rest close refl refl refl refl refl refl refl)) (λ is.
     either_leads _ (number == 413) is (λ e. rw (equal_numbers number 413 e)
-    (plain 413 body rest close refl refl refl refl refl refl refl)) (λ is.
+    (plain_answer_reads 413 body rest close refl refl refl refl refl refl refl)) (λ is.
     either_leads _ (number == 411) is (λ e. rw (equal_numbers number 411 e)
-    (plain 411 body rest close refl refl refl refl refl refl refl)) (λ is.
+    (plain_answer_reads 411 body rest close refl refl refl refl refl refl refl)) (λ is.
     either_leads _ (number == 405) is (λ e. rw (equal_numbers number 405 e) (read_405 body rest close)) (λ is.
     either_leads _ (number == 403) is (λ e. rw (equal_numbers number 403 e)
-    (plain 403 body rest close refl refl refl refl refl refl refl)) (λ is.
+    (plain_answer_reads 403 body rest close refl refl refl refl refl refl refl)) (λ is.
     either_leads _ (number == 400) is (λ e. rw (equal_numbers number 400 e)
-    (plain 400 body rest close refl refl refl refl refl refl refl)) (λ is.
+    (plain_answer_reads 400 body rest close refl refl refl refl refl refl refl)) (λ is.
     absurd (other_than (equal_numbers number 200 is)))))))))
 
 -- the fields of a success
@@ -113,10 +113,10 @@ success count last = (codes "content-type", codes "application/soap+xml") ∷ (c
 abbrev last_pairs : Bool → Fields
 last_pairs close = if close then (codes "connection", codes "close") ∷ [] else []
 
-joined : (line t n v e c body rest : List ℕ)
+answer_regroups : (line t n v e c body rest : List ℕ)
     → line ++ t ++ (n ++ v ++ e) ++ c ++ e ++ body ++ rest
     ≡ (line ++ ((t ++ ((n ++ v ++ e) ++ c)) ++ e)) ++ (body ++ rest)
-joined line t n v e c body rest = simp append_assoc
+answer_regroups line t n v e c body rest = simp append_assoc
 
 lengths : (line t n v e c : List ℕ) → length (line ++ ((t ++ ((n ++ v ++ e) ++ c)) ++ e))
     ≡ length line + ((length t + (((length n + length v) + length e) + length c)) + length e)
@@ -126,10 +126,12 @@ bytes_are : (body rest : List ℕ) (close : Bool) → answer_bytes 200 body clos
     ≡ print_response (head_of 200 (codes "OK") (fields_of (success (decimal (length body)) (last_pairs close)))) ++ (body ++ rest)
 unfolding print_response digits
 bytes_are body rest true =
-    joined (codes "HTTP/1.1 200 OK\r\n") (codes "content-type: application/soap+xml\r\n") (codes "content-length: ") (decimal (length body))
+    answer_regroups (codes "HTTP/1.1 200 OK\r\n") (codes "content-type: application/soap+xml\r\n")
+    (codes "content-length: ") (decimal (length body))
     (codes "\r\n") (codes "connection: close\r\n") body rest
 bytes_are body rest false =
-    joined (codes "HTTP/1.1 200 OK\r\n") (codes "content-type: application/soap+xml\r\n") (codes "content-length: ") (decimal (length body))
+    answer_regroups (codes "HTTP/1.1 200 OK\r\n") (codes "content-type: application/soap+xml\r\n")
+    (codes "content-length: ") (decimal (length body))
     (codes "\r\n") [] body rest
 
 head_is_short : (count : List ℕ) (close : Bool) → length count ≤ 9

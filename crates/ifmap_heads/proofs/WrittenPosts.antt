@@ -38,17 +38,17 @@ head_of host client digits = record {
   last = crlf;
 }
 
-joined : (line n1 v1 e n2 v2 t n4 v4 body rest : List ℕ)
+post_regroups : (line n1 v1 e n2 v2 t n4 v4 body rest : List ℕ)
     → (line ++ n1) ++ v1 ++ e ++ n2 ++ v2 ++ e ++ t ++ (n4 ++ v4 ++ e) ++ e ++ body ++ rest
     ≡ (line ++ ((n1 ++ v1 ++ e) ++ ((n2 ++ v2 ++ e) ++ (t ++ ((n4 ++ v4 ++ e) ++ []))) ++ e)) ++ (body ++ rest)
-joined line n1 v1 e n2 v2 t n4 v4 body rest = simp (append_assoc, append-nil)
+post_regroups line n1 v1 e n2 v2 t n4 v4 body rest = simp (append_assoc, append-nil)
 
 -- the bytes are the head, the body, and what comes after
 bytes_are : (host client body rest : List ℕ)
     → post_bytes host client body ++ rest ≡ print_request (head_of host client (decimal (length body))) ++ (body ++ rest)
 unfolding print_request
 bytes_are host client body rest =
-    joined (codes "POST /ifmap HTTP/1.1\r\n") (codes "host: ") host (codes "\r\n") (codes "ifmap-client: ") client
+    post_regroups (codes "POST /ifmap HTTP/1.1\r\n") (codes "host: ") host (codes "\r\n") (codes "ifmap-client: ") client
     (codes "content-type: application/soap+xml\r\n") (codes "content-length: ") (decimal (length body)) body rest
 
 lengths : (line n1 v1 e n2 v2 t n4 v4 : List ℕ)
@@ -86,11 +86,11 @@ module _ (host client body : List ℕ) (seen : list_all is_ascii_graphic host �
   digits_seen : list_all is_ascii_graphic size ≡ true
   digits_seen = tests_weaker is_ascii_digit is_ascii_graphic digit_is_visible size (digits_are (length body) (omega arith))
 
-  named : ((nat_le 1 (length client) && nat_le (length client) 40) ≡ true) × (list_all is_client_byte client ≡ true)
-  named = and_parts (nat_le 1 (length client) && nat_le (length client) 40) (list_all is_client_byte client) name
+  client_is_name : ((nat_le 1 (length client) && nat_le (length client) 40) ≡ true) × (list_all is_client_byte client ≡ true)
+  client_is_name = and_parts (nat_le 1 (length client) && nat_le (length client) 40) (list_all is_client_byte client) name
 
   client_seen : list_all is_ascii_graphic client ≡ true
-  client_seen = tests_weaker is_client_byte is_ascii_graphic client_byte_is_visible client named.1
+  client_seen = tests_weaker is_client_byte is_ascii_graphic client_byte_is_visible client client_is_name.1
 
   fit : list_all is_fit (pairs_of host client size) ≡ true
   unfolding is_token_byte
@@ -119,7 +119,7 @@ module _ (host client body : List ℕ) (seen : list_all is_ascii_graphic host �
   pub post_is_read : (rest : List ℕ) → length host ≤ longest_host
       → ReadsPost (post_bytes host client body ++ rest) (posted client body false rest)
   post_is_read rest near =
-      let client_short : length client ≤ 40 = grind (arith, nat_tests, named.0) in
+      let client_short : length client ≤ 40 = grind (arith, nat_tests, client_is_name.0) in
       let digits_short : length size ≤ 9 = length-decimal-le 9 (length body) (omega arith) (omega arith) (omega arith) in (
         head_of host client size,
         record {

@@ -63,30 +63,31 @@ module _ (one other : List ℕ) (at : ℕ) (room : at + 16 ≤ length one) (also
   abbrev lanes : List Bool
   lanes = zip2 differ (chunk at 16 one) (chunk at 16 other)
 
-  long : length lanes ≡ 16
-  long = length-zip2 differ (chunk at 16 one) (chunk at 16 other) (length-chunk at 16 one room ∙ sym (length-chunk at 16 other also))
+  sixteen_lanes : length lanes ≡ 16
+  sixteen_lanes =
+      length-zip2 differ (chunk at 16 one) (chunk at 16 other) (length-chunk at 16 one room ∙ sym (length-chunk at 16 other also))
       ∙ length-chunk at 16 one room
 
   abbrev mask : ℕ
   mask = mask_l (map (top 7) (zip2 (λ a b. cond (differ a b) 255 0) (chunk at 16 one) (chunk at 16 other))) % 2 ^ 64
 
-  counted : (n : ℕ) → cond (eqb mask 0) 16 (count_trailing_zeros 64 mask) ≡ n → SharesInBlock one other at n
-  counted n e =
+  zeros_count_shared : (n : ℕ) → cond (eqb mask 0) 16 (count_trailing_zeros 64 mask) ≡ n → SharesInBlock one other at n
+  zeros_count_shared n e =
       let same = mask_of (chunk at 16 one) (chunk at 16 other) (length-chunk at 16 one room) (length-chunk at 16 other also) in
       let front : prefix_len not lanes ≡ n =
-      sym (first_set_mask_l (λ b. b) lanes 16 long (omega arith))
+      sym (first_set_mask_l (λ b. b) lanes 16 sixteen_lanes (omega arith))
       ∙ sym (ap (λ m. cond (eqb m 0) 16 (count_trailing_zeros 64 m)) same) ∙ e in
-      from_blocks n (omega (arith, front, long, prefix_len-le-length not lanes))
+      from_blocks n (omega (arith, front, sixteen_lanes, prefix_len-le-length not lanes))
       (subst (Shares (chunk at 16 one) (chunk at 16 other)) front (shares_front (chunk at 16 one) (chunk at 16 other)
       (length-chunk at 16 one room ∙ sym (length-chunk at 16 other also))))
 
   -- where no lane differs
   pub all_shared : mask ≡ 0 → SharesInBlock one other at 16
-  all_shared none = counted 16 (cond-true _ _ _ (eq-eqb mask 0 none))
+  all_shared none = zeros_count_shared 16 (cond-true _ _ _ (eq-eqb mask 0 none))
 
   -- where some lane does
   pub some_shared : mask ≢ 0 → SharesInBlock one other at (count_trailing_zeros 64 mask)
-  some_shared some = counted (count_trailing_zeros 64 mask) (cond-false _ _ _ (ne_eqb mask 0 some))
+  some_shared some = zeros_count_shared (count_trailing_zeros 64 mask) (cond-false _ _ _ (ne_eqb mask 0 some))
 
 -- ---- blocks in a row
 

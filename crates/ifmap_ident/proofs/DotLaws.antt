@@ -59,13 +59,13 @@ cuts_alike (n ∷ ns) s r c =
     cuts_alike ns s c.0 c.1 ∙ ap without_last_dots (suffix_cut c.0 n c.2.1) ∙ last_dot (take (length c.0 - n) c.0)
     ∙ ap without_last_dots (sym c.3)
 
-trimmed : (r : List ℕ) (o : Option ℕ) → FindsCharSuffix 46 r o → IfSome o (λ n. n ≡ 0) → without_last_dots r ≡ r
-trimmed r None none zero = no_dot_kept r (λ front e. none front (e ∙ ap (λ d. front ++ d) (sym dot_encoded)))
-trimmed r (Some n) some zero = absurd (let one : n ≡ 1 = some.0 in omega arith)
+dotless_stays : (r : List ℕ) (o : Option ℕ) → FindsCharSuffix 46 r o → IfSome o (λ n. n ≡ 0) → without_last_dots r ≡ r
+dotless_stays r None none zero = no_dot_kept r (λ front e. none front (e ∙ ap (λ d. front ++ d) (sym dot_encoded)))
+dotless_stays r (Some n) some zero = absurd (let one : n ≡ 1 = some.0 in omega arith)
 
 -- what the standard library cuts
 pub trim_cuts : (s r : List ℕ) → IsTrimEndMatches (FindsCharSuffix 46) s r → r ≡ without_last_dots s
-trim_cuts s r t = sym (cuts_alike t.0.0 s r t.0.1 ∙ trimmed r t.1.0 t.1.1 t.1.2)
+trim_cuts s r t = sym (cuts_alike t.0.0 s r t.0.1 ∙ dotless_stays r t.1.0 t.1.1 t.1.2)
 
 -- ---- what is kept
 

@@ -178,8 +178,8 @@ mac_or_none decides e =
 
 -- ---- answers
 
-made : (i : Identifier) → Ok i ≢ Err NoMemory
-made i e = let f : Ok i ≡ Err NoMemory = e in cc
+ok_is_no_fault : (i : Identifier) → Ok i ≢ Err NoMemory
+ok_is_no_fault i e = let f : Ok i ≡ Err NoMemory = e in cc
 
 abbrev HasMeaning : Kind → Element → Type 0
 HasMeaning kind e = (r : Result Identifier IdentError) × ArePartsOf kind e r × (r ≢ Err NoMemory)
@@ -198,29 +198,29 @@ too_long e = cc
 
 access_request_answer : (e : Element) → Decided ((name domain : List ℕ) × IsAccessRequest e name domain)
     → HasMeaning variants.AccessRequest e
-access_request_answer e (inl p) = (Ok (AccessRequest p.0 p.1), (refl, p.2), made (AccessRequest p.0 p.1))
+access_request_answer e (inl p) = (Ok (AccessRequest p.0 p.1), (refl, p.2), ok_is_no_fault (AccessRequest p.0 p.1))
 access_request_answer e (inr fails) = (Err Invalid, no_access_request e (λ n d p. fails (n, d, p)), invalid)
 
 device_answer : (e : Element) → Decided ((name : List ℕ) × IsDevice e name) → HasMeaning variants.Device e
-device_answer e (inl p) = (Ok (Device p.0), (refl, p.1), made (Device p.0))
+device_answer e (inl p) = (Ok (Device p.0), (refl, p.1), ok_is_no_fault (Device p.0))
 device_answer e (inr fails) = (Err Invalid, no_device e (λ n p. fails (n, p)), invalid)
 
 ip_answer : (e : Element) → Decided ((value domain : List ℕ) × IsIpAddress (codes "IPv4") IsIpV4 e value domain)
     → Decided ((value domain : List ℕ) × IsIpAddress (codes "IPv6") IsIpV6 e value domain) → HasMeaning variants.IpAddress e
-ip_answer e (inl p) q = (Ok (IpV4 p.0 p.1), (refl, p.2), made (IpV4 p.0 p.1))
-ip_answer e (inr fails) (inl q) = (Ok (IpV6 q.0 q.1), (refl, q.2), made (IpV6 q.0 q.1))
+ip_answer e (inl p) q = (Ok (IpV4 p.0 p.1), (refl, p.2), ok_is_no_fault (IpV4 p.0 p.1))
+ip_answer e (inr fails) (inl q) = (Ok (IpV6 q.0 q.1), (refl, q.2), ok_is_no_fault (IpV6 q.0 q.1))
 ip_answer e (inr fails) (inr none) =
     (Err Invalid, no_ip_address e (λ v d p. fails (v, d, p)) (λ v d p. none (v, d, p)), invalid)
 
 mac_answer : (e : Element) → Decided ((value domain : List ℕ) × IsMacAddressElement e value domain)
     → HasMeaning variants.MacAddress e
-mac_answer e (inl p) = (Ok (MacAddress p.0 p.1), (refl, p.2), made (MacAddress p.0 p.1))
+mac_answer e (inl p) = (Ok (MacAddress p.0 p.1), (refl, p.2), ok_is_no_fault (MacAddress p.0 p.1))
 mac_answer e (inr fails) = (Err Invalid, no_mac_address e (λ v d p. fails (v, d, p)), invalid)
 
 -- the size of what is meant tells the answer
 answer_of : (e : Element) (r : Result Identifier IdentError) → IsMeaning e r → r ≢ Err NoMemory → HasAnswer e
 answer_of e (Ok i) meant some = elim (at_most (length (identifier_bytes i)) most_bytes) [
-  | inl within ↦ (Ok i, record { meant = meant; within = within }, made i)
+  | inl within ↦ (Ok i, record { meant = meant; within = within }, ok_is_no_fault i)
   | inr above ↦ (Err TooLong, record { identifier = i; meant = meant; above = above }, too_long)
 ]
 answer_of e (Err error) meant some = (Err error, refused_meaning e error meant, some)
@@ -286,7 +286,7 @@ module _ (reads : (bytes : List ℕ) → Decided ((reading : Reading) × Spells 
   identity_answer : (e : Element)
       → Decided ((name : List ℕ) × (kind : IdentityType) × (other domain : List ℕ) × IsIdentity e name kind other domain)
       → HasMeaning variants.Identity e
-  identity_answer e (inl p) = (Ok (Identity p.0 p.1 p.2 p.3), (refl, p.4), made (Identity p.0 p.1 p.2 p.3))
+  identity_answer e (inl p) = (Ok (Identity p.0 p.1 p.2 p.3), (refl, p.4), ok_is_no_fault (Identity p.0 p.1 p.2 p.3))
   identity_answer e (inr fails) = (Err Invalid, no_identity e (λ n k o d p. fails (n, k, o, d, p)), invalid)
 
   parts_answer : (kind : Kind) (e : Element) → HasMeaning kind e

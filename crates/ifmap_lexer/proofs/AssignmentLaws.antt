@@ -30,20 +30,21 @@ pub value_meant : (written text : List ℕ) → text ≡ written → SomeGiven w
 value_meant written text e s = (s.0, subst (λ (x : List ℕ). IsValue x s.0) (sym e) s.3)
 
 module _ (bytes white inner : List ℕ) (c : Cuts is_white bytes white inner) where
-  parted : (a : Assignment) (r : List ℕ) (t : TakesAssignment bytes a r) → (white ≡ t.white) × (inner ≡ name_bytes a.name ++ t.after)
-  parted a r t = one_cut is_white white t.white inner (name_bytes a.name ++ t.after) c.passes t.is_white c.stops
+  white_and_inner : (a : Assignment) (r : List ℕ) (t : TakesAssignment bytes a r)
+      → (white ≡ t.white) × (inner ≡ name_bytes a.name ++ t.after)
+  white_and_inner a r t = one_cut is_white white t.white inner (name_bytes a.name ++ t.after) c.passes t.is_white c.stops
       (white_stops_at_name a.name t.after t.is_name) (sym c.bytes_are ∙ t.bytes_are)
 
   pub no_white : white ≡ [] → SomeAssignment bytes → ⊥
-  no_white e s = s.2.some_white (sym (parted s.0 s.1 s.2).0 ∙ e)
+  no_white e s = s.2.some_white (sym (white_and_inner s.0 s.1 s.2).0 ∙ e)
 
   pub some_name : SomeAssignment bytes → SomeName inner
-  some_name s = let t = s.2 in (s.0.name, t.after, t.is_name, (parted s.0 s.1 t).1, quoted_stops t.after t.written s.1 t.given)
+  some_name s = let t = s.2 in (s.0.name, t.after, t.is_name, (white_and_inner s.0 s.1 t).1, quoted_stops t.after t.written s.1 t.given)
 
   module _ (name : Qualified) (after : List ℕ) (n : NameAt inner name after) where
     named : (a : Assignment) (r : List ℕ) (t : TakesAssignment bytes a r) → (name ≡ a.name) × (after ≡ t.after)
     named a r t = name_cut name a.name after t.after n.0 t.is_name n.2 (quoted_stops t.after t.written r t.given)
-        (sym n.1 ∙ (parted a r t).1)
+        (sym n.1 ∙ (white_and_inner a r t).1)
 
     pub no_value : ((w r : List ℕ) → TakesQuoted after w r → ⊥) → SomeAssignment bytes → ⊥
     no_value none s = none s.2.written s.1 (subst (λ (x : List ℕ). TakesQuoted x s.2.written s.1) (sym (named s.0 s.1 s.2).1) s.2.given)

@@ -41,8 +41,8 @@ occurs_whole w whole xs ys j e o = record {
   reads = λ i l. ap (λ l'. get_or l' (j + i) 0) e ∙ get_or-append xs ys 0 (j + i) (omega (arith, o.fits)) ∙ o.reads i l;
 }
 
-joined : (a w b : List ℕ) (m : ℕ) → a ++ (w ++ b) ≡ (a ++ take m w) ++ (drop m w ++ b)
-joined a w b m = ap (λ x. a ++ (x ++ b)) (sym (take-append-drop m w)) ∙ simp append_assoc
+rejoins_after_take : (a w b : List ℕ) (m : ℕ) → a ++ (w ++ b) ≡ (a ++ take m w) ++ (drop m w ++ b)
+rejoins_after_take a w b m = ap (λ x. a ++ (x ++ b)) (sym (take-append-drop m w)) ∙ simp append_assoc
 
 pub word_found : (w bytes front after : List ℕ) (k : ℕ) → 0 < length w → NoneBefore (OccursAt bytes w) 0 (length bytes + 1) k
     → OccursAt bytes w k → front ≡ take k bytes → after ≡ drop (length w) (drop k bytes) → CutsWord w bytes front after
@@ -51,7 +51,7 @@ word_found w bytes front after k some first o f b =
     ∙ (λ i. OccursAt-part bytes w k o i ++ sym b i) in
     let whole : bytes ≡ front ++ (w ++ after) = sym (take-append-drop k bytes) ∙ (λ i. sym f i ++ tail i) in
     let m = length w - 1 in
-    let cut : bytes ≡ (front ++ take m w) ++ (drop m w ++ after) = whole ∙ joined front w after m in
+    let cut : bytes ≡ (front ++ take m w) ++ (drop m w ++ after) = whole ∙ rejoins_after_take front w after m in
     record {
       bytes_are = whole;
       lacks = lacks_from w (front ++ take m w) (λ j inside.

@@ -39,17 +39,17 @@ fold_joined (item ∷ items) more sets = fold_joined items more (fold_item item 
 other_set : (m n : List ℕ) (new old : Option (List Entry)) → is_same_text m n ≡ false → cond (bytes_eq m n) new old ≡ old
 other_set m n new old other = rw other refl
 
-renamed : (own m n : List ℕ) → is_same_text own m ≡ true → is_same_text m n ≡ false → is_same_text own n ≡ false
-renamed own m n named other = subst (λ t. is_same_text t n ≡ false) (sym (text_is own m named)) other
+unlike_by_same : (own m n : List ℕ) → is_same_text own m ≡ true → is_same_text m n ≡ false → is_same_text own n ≡ false
+unlike_by_same own m n named other = subst (λ t. is_same_text t n ≡ false) (sym (text_is own m named)) other
 
 pub other_stays : (item : PollItem) (sets : Sets) (m n : List ℕ) → is_named m item ≡ true → is_same_text m n ≡ false
     → fold_item item sets n ≡ sets n
-other_stays (the_item.Search own entries) sets m n named other = other_set own n _ (sets n) (renamed own m n named other)
-other_stays (the_item.Update own entries) sets m n named other = other_set own n _ (sets n) (renamed own m n named other)
-other_stays (the_item.Delete own entries) sets m n named other = other_set own n _ (sets n) (renamed own m n named other)
+other_stays (the_item.Search own entries) sets m n named other = other_set own n _ (sets n) (unlike_by_same own m n named other)
+other_stays (the_item.Update own entries) sets m n named other = other_set own n _ (sets n) (unlike_by_same own m n named other)
+other_stays (the_item.Delete own entries) sets m n named other = other_set own n _ (sets n) (unlike_by_same own m n named other)
 other_stays (the_item.Notify own entries) sets m n named other = refl
 other_stays (the_item.Error None code note) sets m n named other = let bad : false ≡ true = named in cc
-other_stays (the_item.Error (Some own) code note) sets m n named other = other_set own n _ (sets n) (renamed own m n named other)
+other_stays (the_item.Error (Some own) code note) sets m n named other = other_set own n _ (sets n) (unlike_by_same own m n named other)
 
 pub others_stay : (items : List PollItem) (sets : Sets) (m n : List ℕ) → AllByRecursion (λ i. is_named m i ≡ true) items
     → is_same_text m n ≡ false → fold_items items sets n ≡ sets n
@@ -124,24 +124,24 @@ told_named before after notes x =
 own_set : (n : List ℕ) (new old : Option (List Entry)) → cond (bytes_eq n n) new old ≡ new
 own_set n new old = let own : is_same_text n n ≡ true = text_itself n in rw own refl
 
-deleted : (name : List ℕ) (entries : List Entry) (sets : Sets) (a : List Entry) → sets name ≡ Some a
+delete_folds : (name : List ℕ) (entries : List Entry) (sets : Sets) (a : List Entry) → sets name ≡ Some a
     → fold_items (item_if_any (the_item.Delete name) entries) sets name ≡ Some (difference a entries)
-deleted name [] sets a is = is ∙ ap Some (sym (difference_none a))
-deleted name (e ∷ entries) sets a is =
+delete_folds name [] sets a is = is ∙ ap Some (sym (difference_none a))
+delete_folds name (e ∷ entries) sets a is =
     own_set name (option_map (λ set. difference set (e ∷ entries)) (sets name)) (sets name)
     ∙ ap (option_map (λ set. difference set (e ∷ entries))) is
 
-updated : (name : List ℕ) (entries : List Entry) (sets : Sets) (a : List Entry) → sets name ≡ Some a
+update_folds : (name : List ℕ) (entries : List Entry) (sets : Sets) (a : List Entry) → sets name ≡ Some a
     → fold_items (item_if_any (the_item.Update name) entries) sets name ≡ Some (with_entries entries a)
-updated name [] sets a is = is
-updated name (e ∷ entries) sets a is =
+update_folds name [] sets a is = is
+update_folds name (e ∷ entries) sets a is =
     own_set name (Some (with_entries (e ∷ entries) (unwrap_or (sets name) []))) (sets name)
     ∙ ap (λ set. Some (with_entries (e ∷ entries) (unwrap_or set []))) is
 
-notified : (name : List ℕ) (entries : List Entry) (sets : Sets)
+notify_folds : (name : List ℕ) (entries : List Entry) (sets : Sets)
     → fold_items (item_if_any (the_item.Notify name) entries) sets name ≡ sets name
-notified name [] sets = refl
-notified name (e ∷ entries) sets = refl
+notify_folds name [] sets = refl
+notify_folds name (e ∷ entries) sets = refl
 
 -- one result, then what went and what came, makes the other
 abbrev pub Folds : List Attachment → List Attachment → Search → Type 0
@@ -158,9 +158,9 @@ told_own before after notes x sets folds fits is =
     let gone : List PollItem = item_if_any (the_item.Delete x.name) (difference a b) in
     let come : List PollItem = item_if_any (the_item.Update x.name) (difference b a) in
     let heard : List PollItem = item_if_any (the_item.Notify x.name) (told_notes after x.search notes) in
-    let first = deleted x.name (difference a b) sets a is in
-    let second = updated x.name (difference b a) (fold_items gone sets) (difference a (difference a b)) first in
-    let third = notified x.name (told_notes after x.search notes) (fold_items come (fold_items gone sets)) in
+    let first = delete_folds x.name (difference a b) sets a is in
+    let second = update_folds x.name (difference b a) (fold_items gone sets) (difference a (difference a b)) first in
+    let third = notify_folds x.name (told_notes after x.search notes) (fold_items come (fold_items gone sets)) in
     rw fits (ap (λ f. f x.name) (fold_joined gone (come ++ heard) sets)
     ∙ ap (λ f. f x.name) (fold_joined come heard (fold_items gone sets)) ∙ third ∙ second ∙ ap Some folds)
 

@@ -26,9 +26,9 @@ record Moved (order : List ℕ) (place number k : ℕ) : Type 0 where
   back : place ≤ k → suc from ≡ k
   is : get_or (insert order place number) k 0 ≡ get_or order from 0
 
-moved : (order : List ℕ) (place number k : ℕ) → place ≤ length order → k < length order + 1
+places_move : (order : List ℕ) (place number k : ℕ) → place ≤ length order → k < length order + 1
     → Moved order place number k ⊎ ((k ≡ place) × (get_or (insert order place number) k 0 ≡ number))
-moved order place number k within k_in =
+places_move order place number k within k_in =
     elim (cases_eq k place) [
       | inl here ↦ inr (here, ap (λ i. get_or (insert order place number) i 0) here ∙ get_or-insert_at order place number 0 within)
       | inr differs ↦ elim (cases_lt k place) [
@@ -62,8 +62,8 @@ record Closed (order : List ℕ) (place k : ℕ) : Type 0 where
   back : place ≤ k → from ≡ suc k
   is : get_or (remove order place) k 0 ≡ get_or order from 0
 
-closed : (order : List ℕ) (place k : ℕ) → place < length order → k + 1 < length order → Closed order place k
-closed order place k within k_in =
+places_close : (order : List ℕ) (place k : ℕ) → place < length order → k + 1 < length order → Closed order place k
+places_close order place k within k_in =
     elim (cases_lt k place) [
       | inl before ↦ record {
         from = k;
@@ -244,7 +244,7 @@ module _ {K : Type 0} {cmp : K → K → Ordering} (total : IsTotalOrder cmp) wh
 
       source : (k : ℕ) → k < length order + 1 → Moved order place number k ⊎ ((k ≡ place) × (get_or (insert order place number) k 0 ≡
           number))
-      source k = moved order place number k within
+      source k = places_move order place number k within
 
       was_at : (k : ℕ) (a : HeldKey K) (s : Moved order place number k) → new (get_or (insert order place number) k 0) ≡ Some a
           → slot (get_or order s.from 0) ≡ Some a
@@ -258,12 +258,12 @@ module _ {K : Type 0} {cmp : K → K → Ordering} (total : IsTotalOrder cmp) wh
   IsKeyIndex-removed slot new order indexed number place within stood none others =
       record {
         rising = λ i j a b before j_in at_i at_j.
-            let first = closed order place i within (omega (arith, length-remove order place within)) in
-            let second = closed order place j within (omega (arith, length-remove order place within)) in
+            let first = places_close order place i within (omega (arith, length-remove order place within)) in
+            let second = places_close order place j within (omega (arith, length-remove order place within)) in
             indexed.rising first.from second.from a b (in_order i j first second before) second.within (was_at i a first at_i) (was_at j
             b second at_j);
         live = λ i i_in.
-            let from = closed order place i within (omega (arith, length-remove order place within)) in
+            let from = places_close order place i within (omega (arith, length-remove order place within)) in
             let there = some_is _ (indexed.live from.from from.within) in
             is_some_of _ there.0 (ap new from.is ∙ kept i from ∙ there.1);
         listed = λ n some.

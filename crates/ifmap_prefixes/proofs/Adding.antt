@@ -99,8 +99,8 @@ module _ (ds : List Declared) (d : Declared) (old new : Kept) (at : HasLast old 
             (ap (λ (x : Declared). x.path) same ∙ is.path_is) in
             cc
 
-  added : HasLast new (ds ++ d ∷ [])
-  added = record { found = found_more; last = last_more }
+  has_new_last : HasLast new (ds ++ d ∷ [])
+  has_new_last = record { found = found_more; last = last_more }
 
 -- a loop's step
 pub row_added : (rows : List Declared) (n : ℕ) (d : Declared) → n < length rows → d ≡ get_or rows n d → (old new : Kept)
@@ -110,7 +110,7 @@ pub row_added : (rows : List Declared) (n : ℕ) (d : Declared) → n < length r
 row_added rows n d l is old new at now =
     let long : length (take n rows) ≡ n = length-take-le n rows (omega arith) in
     subst (HasLast new) (sym (take_more rows n d l ∙ ap (λ (x : Declared). take n rows ++ x ∷ []) (sym is)))
-    (added (take n rows) d old new at (λ prefix path. now prefix path
+    (has_new_last (take n rows) d old new at (λ prefix path. now prefix path
     ∙ ap (λ k. cond (is_key d prefix path) (Some k) (old prefix path)) (sym long)))
 
 pub no_rows : (kept : Kept) → ((prefix path : List ℕ) → kept prefix path ≡ None) → HasLast kept []

@@ -45,8 +45,8 @@ module _ (prefix path : List ℕ) where
       ∙ ap (lookup (bytes_eq prefix)) (map-append row_of_binding (reverse (bindings_in ds)) (binding_told d ∷ []))
       ∙ lookup_more (bytes_eq prefix) (map row_of_binding (reverse (bindings_in ds))) ((d.prefix, d.space) ∷ [])
 
-  same : (ds : List Declared) (d : Declared) → stands d ≡ false → space_in (d ∷ ds) ≡ space_in ds
-  same ds d e =
+  space_further_on : (ds : List Declared) (d : Declared) → stands d ≡ false → space_in (d ∷ ds) ≡ space_in ds
+  space_further_on ds d e =
       ap (λ b. lookup (bytes_eq prefix)
       (map row_of_binding (reverse (map binding_told (cond b (d ∷ filter stands ds) (filter stands ds)))))) e
 
@@ -58,7 +58,7 @@ module _ (prefix path : List ℕ) where
         more ds d e ∙ ap (λ o. option_or o (cond (bytes_eq prefix d.prefix) (Some d.space) None)) (space_is_last ds)
         ∙ ap (λ b. option_or (last_space ds) (cond (b && bytes_eq prefix d.prefix) (Some d.space) None)) (sym e)
     | inr e ↦
-        same ds d e ∙ space_is_last ds ∙ sym (or_none (last_space ds))
+        space_further_on ds d e ∙ space_is_last ds ∙ sym (or_none (last_space ds))
         ∙ ap (λ b. option_or (last_space ds) (cond (b && bytes_eq prefix d.prefix) (Some d.space) None)) (sym e)
   ]
 

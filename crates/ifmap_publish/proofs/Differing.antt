@@ -137,9 +137,9 @@ module _ (o n : Stored) (os ns : List Stored) (over : AllAbove o os) (up : AllAb
       ∙ ap (λ xs. n ∷ xs) rest
 
   -- both tie, and are one or not
-  tied : stored_order o n ≡ Equal → IsWhole o → IsWhole n → (b : Bool) → same_stored o n ≡ b → AreSame os ns
+  ties_are_same : stored_order o n ≡ Equal → IsWhole o → IsWhole n → (b : Bool) → same_stored o n ≡ b → AreSame os ns
       → AreSame (o ∷ os) (n ∷ ns)
-  tied e v w b is rest =
+  ties_are_same e v w b is rest =
       let back : stored_order n o ≡ Equal = stored_total.antisymm n o ∙ ap ordering_reverse e in
       let ns_over : AllAbove o ns = above_tied o n ns e up in
       let os_over : AllAbove n os = above_tied n o os back over in
@@ -191,6 +191,6 @@ differences_make (o ∷ os) new over up v w = walk new up w (λ ns s t. differen
         at : (c : Ordering) → stored_order o n ≡ c → AllAbove n ns → AreSame os (n ∷ ns) → AreSame os ns → AreSame (o ∷ os) ns
             → AreSame (o ∷ os) (n ∷ ns)
         at Less e all both tail mine = below o n os ns (sorted_first o os over).0 all e both
-        at Equal e all both tail mine = tied o n os ns (sorted_first o os over).0 all e v.0 w.0 (same_stored o n) refl tail
+        at Equal e all both tail mine = ties_are_same o n os ns (sorted_first o os over).0 all e v.0 w.0 (same_stored o n) refl tail
         at Greater e all both tail mine =
             above o n os ns (sorted_first o os over).0 all (stored_total.antisymm n o ∙ ap ordering_reverse e) mine

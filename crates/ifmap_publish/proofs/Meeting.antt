@@ -75,9 +75,9 @@ module _ (t k : Stored → Bool) (rows : List Stored) (up : IsStrictlySortedBy s
   rest_is : rest ≡ cond (t row) (row ∷ filter t later) (filter t later)
   rest_is = left ∙ ap (filter t) front
 
-  kept : (b : Bool) → t row ≡ false → k row ≡ b → met2 ≡ met ++ cond b (row ∷ []) [] → met2 ≡ filter p (take (i + 1) rows)
-  kept true n y e = e ∙ kept_more p rows i row low at met so (λ j. not (n j) && y j)
-  kept false n y e = e ∙ append-nil met ∙ passed_more p rows i row low at met so (λ j. not (n j) && y j)
+  keeps_one_met : (b : Bool) → t row ≡ false → k row ≡ b → met2 ≡ met ++ cond b (row ∷ []) [] → met2 ≡ filter p (take (i + 1) rows)
+  keeps_one_met true n y e = e ∙ kept_more p rows i row low at met so (λ j. not (n j) && y j)
+  keeps_one_met false n y e = e ∙ append-nil met ∙ passed_more p rows i row low at met so (λ j. not (n j) && y j)
 
   pub row_passed : (rest2 ≡ filter t later) × (met2 ≡ filter p (take (i + 1) rows))
   row_passed = elim (cases_Bool (t row)) [
@@ -93,7 +93,7 @@ module _ (t k : Stored → Bool) (rows : List Stored) (up : IsStrictlySortedBy s
         let case : Case k row rest rest2 met met2 None =
         subst (Case k row rest rest2 met met2) (ap (after_like row) here ∙ none_like row (filter t later) above) passes in (
           case.0 ∙ here,
-          kept (k row) n refl case.1,
+          keeps_one_met (k row) n refl case.1,
         )
   ]
 

@@ -257,9 +257,10 @@ remain x z ys differ e =
     any-filter_same (same_item z) (λ y. not (same_item x y)) true
     (λ y t. ap not (told_as z x y (items_equiv.symm y z ∙ t) ∙ differ)) ys ∙ e
 
-fewer : (x : Item) (ys : List Item) → list_any (same_item x) ys ≡ true → length (filter (λ y. not (same_item x y)) ys) + 1 ≤ length ys
-fewer x [] e = cc
-fewer x (y ∷ ys) e = by (same_item x y) refl e (fewer x ys)
+one_item_fewer : (x : Item) (ys : List Item) → list_any (same_item x) ys ≡ true
+    → length (filter (λ y. not (same_item x y)) ys) + 1 ≤ length ys
+one_item_fewer x [] e = cc
+one_item_fewer x (y ∷ ys) e = by (same_item x y) refl e (one_item_fewer x ys)
   where
     by : (b : Bool) → same_item x y ≡ b → (b || list_any (same_item x) ys) ≡ true
         → (list_any (same_item x) ys ≡ true → length (filter (λ y. not (same_item x y)) ys) + 1 ≤ length ys)
@@ -268,13 +269,13 @@ fewer x (y ∷ ys) e = by (same_item x y) refl e (fewer x ys)
         let n = ap length (all_pass ys) in omega (arith, l, n)
     by false is e rest = let l = rest e in omega (arith, l)
 
-counted : (xs ys : List Item) → IsStrictlySortedBy item_order xs → AllByRecursion (λ x. list_any (same_item x) ys ≡ true) xs
+no_more_than_all : (xs ys : List Item) → IsStrictlySortedBy item_order xs → AllByRecursion (λ x. list_any (same_item x) ys ≡ true) xs
     → length xs ≤ length ys
 unfolding IsStrictlySortedBy
-counted [] ys up all = omega arith
-counted (x ∷ xs) ys up all =
-    let less = counted xs (filter (λ y. not (same_item x y)) ys) up.1 (walk xs up.0 all.1) in
-    let one = fewer x ys all.0 in omega (arith, less, one)
+no_more_than_all [] ys up all = omega arith
+no_more_than_all (x ∷ xs) ys up all =
+    let less = no_more_than_all xs (filter (λ y. not (same_item x y)) ys) up.1 (walk xs up.0 all.1) in
+    let one = one_item_fewer x ys all.0 in omega (arith, less, one)
   where
     walk : (zs : List Item) → AllByRecursion (λ y. item_order x y ≡ Less) zs → AllByRecursion (λ z. list_any (same_item z) ys ≡ true) zs
         → AllByRecursion (λ z. list_any (same_item z) (filter (λ y. not (same_item x y)) ys) ≡ true) zs
@@ -295,7 +296,7 @@ among_items k (r ∷ rows) full = elim (cases_Bool (same_item k r.item)) [
 pub steps_are : (who : Who) (rows : List Attachment) (changes : List ItemChange) (last : Option Item) (before steps : ℕ)
     → IsSoFar who rows changes last before steps → steps ≤ before + length (items_of rows)
 steps_are who rows changes last before steps so =
-    let n = counted so.keys (items_of rows) so.up
+    let n = no_more_than_all so.keys (items_of rows) so.up
     (all_weaker (λ k. stored_on k rows ≢ []) (λ k. list_any (same_item k) (items_of rows) ≡ true)
     (λ k full. among_items k rows full) so.keys so.carry) in
     omega (arith, n, so.count)

@@ -202,8 +202,8 @@ same_ties a b e =
 module _ (xs ys xt yt : List Stored) (up : IsStrictlySortedBy stored_order xs) (left : xt ≡ filter (is_among xt) xs)
     (right : yt ≡ filter (is_among yt) ys) (stays : list_without xt xs ≡ list_without yt ys) where
   -- one that stays is in both
-  stayed : (s : Stored) → Has xs s → is_among xt s ≡ false → Has ys s
-  stayed s h e =
+  stays_in_both : (s : Stored) → Has xs s → is_among xt s ≡ false → Has ys s
+  stays_in_both s h e =
       (filter_has (λ t. not (is_among yt t)) ys s
       (subst (λ l. Has l s) stays (has_filter (λ t. not (is_among xt t)) xs s h (ap not e)))).0
 
@@ -238,7 +238,7 @@ module _ (xs ys xt yt : List Stored) (up : IsStrictlySortedBy stored_order xs) (
     where
       by : (b : Bool) → is_among xt s ≡ b → (b && not (list_any (same_stored s) yt)) ≡ not (list_any (same_stored s) ys)
       by true e = ap not (sym (found_either s h e))
-      by false e = sym (ap not (has_any (same_stored s) ys s (stayed s h e) (same_itself s)))
+      by false e = sym (ap not (has_any (same_stored s) ys s (stays_in_both s h e) (same_itself s)))
 
   pub moved : stored_difference xt yt ≡ stored_difference xs ys
   moved =

@@ -113,11 +113,12 @@ record Parted (p : ℕ → Bool) (bytes : List ℕ) : Type 0 where
   after : IsCharacters rest
 
 module _ (p : ℕ → Bool) (high : (b : ℕ) → 128 ≤ b → p b ≡ true) where
-  parted : (cs : List ℕ) → AllAre is_character cs → Parted p (encode_utf8_all cs)
-  parted [] f = record { front = []; rest = []; bytes_are = refl; passes = tt; stops = tt; before = no_characters; after = no_characters }
-  parted (c ∷ cs) f = elim (cases_Bool (p c)) [
+  cuts_at_stop : (cs : List ℕ) → AllAre is_character cs → Parted p (encode_utf8_all cs)
+  cuts_at_stop [] f =
+      record { front = []; rest = []; bytes_are = refl; passes = tt; stops = tt; before = no_characters; after = no_characters }
+  cuts_at_stop (c ∷ cs) f = elim (cases_Bool (p c)) [
     | inl e ↦
-        let r = parted cs f.1 in
+        let r = cuts_at_stop cs f.1 in
         record {
           front = encode_utf8 c ++ r.front;
           rest = r.rest;
@@ -143,42 +144,43 @@ module _ (p : ℕ → Bool) (high : (b : ℕ) → 128 ≤ b → p b ≡ true) wh
 
   cut_characters : (bytes a b : List ℕ) → IsCharacters bytes → bytes ≡ a ++ b → AllAre p a → Stops p b → IsCharacters a × IsCharacters b
   cut_characters bytes a b i e f stop =
-      let r = parted i.0 i.2 in
+      let r = cuts_at_stop i.0 i.2 in
       let both = one_cut p r.front a r.rest b r.passes f r.stops stop (sym r.bytes_are ∙ i.1 ∙ e) in
       (subst IsCharacters both.0 r.before, subst IsCharacters both.1 r.after)
 
 -- references
 
-tested : (b : Bool) (v c : ℕ) → (b ≡ true → is_character v ≡ true) → (if b then Some v else None) ≡ Some c → is_character c ≡ true
-tested true v c f e = let same : v ≡ c = cc in subst (λ (n : ℕ). is_character n ≡ true) same (f refl)
-tested false v c f e = cc
+tested_is_character : (b : Bool) (v c : ℕ) → (b ≡ true → is_character v ≡ true)
+    → (if b then Some v else None) ≡ Some c → is_character c ≡ true
+tested_is_character true v c f e = let same : v ≡ c = cc in subst (λ (n : ℕ). is_character n ≡ true) same (f refl)
+tested_is_character false v c f e = cc
 
 numbered_fits : (base : ℕ) (digits : List ℕ) (c : ℕ) → code_point base digits ≡ Some c → is_character c ≡ true
 numbered_fits base digits c e =
-    tested (not (length digits == 0) && list_all (λ d. is_digit d base) digits && is_character (digits_value base digits))
+    tested_is_character (not (length digits == 0) && list_all (λ d. is_digit d base) digits && is_character (digits_value base digits))
     (digits_value base digits) c
     (λ t. (and_parts (not (length digits == 0) && list_all (λ d. is_digit d base) digits) (is_character (digits_value base digits)) t).1) e
 
-chosen : (b : Bool) (o q : Option ℕ) (c : ℕ) → (o ≡ Some c → is_character c ≡ true) → (q ≡ Some c → is_character c ≡ true)
+either_is_character : (b : Bool) (o q : Option ℕ) (c : ℕ) → (o ≡ Some c → is_character c ≡ true) → (q ≡ Some c → is_character c ≡ true)
     → (if b then o else q) ≡ Some c → is_character c ≡ true
-chosen true o q c f g e = f e
-chosen false o q c f g e = g e
+either_is_character true o q c f g e = f e
+either_is_character false o q c f g e = g e
 
-named : (x c : ℕ) → is_character x ≡ true → Some x ≡ Some c → is_character c ≡ true
-named x c h e = let same : x ≡ c = cc in subst (λ (n : ℕ). is_character n ≡ true) same h
+named_is_character : (x c : ℕ) → is_character x ≡ true → Some x ≡ Some c → is_character c ≡ true
+named_is_character x c h e = let same : x ≡ c = cc in subst (λ (n : ℕ). is_character n ≡ true) same h
 
 none_named : (c : ℕ) → ◌≡◌ {A = Option ℕ} None (Some c) → is_character c ≡ true
 none_named c e = cc
 
 pub referred_fits : (name : List ℕ) (c : ℕ) → reference_value name ≡ Some c → is_character c ≡ true
 referred_fits name c =
-    chosen (bytes_eq name (codes "amp")) _ _ c (named ampersand c refl)
-    (chosen (bytes_eq name (codes "lt")) _ _ c (named less_than c refl)
-    (chosen (bytes_eq name (codes "gt")) _ _ c (named greater_than c refl)
-    (chosen (bytes_eq name (codes "quot")) _ _ c (named double_quote c refl)
-    (chosen (bytes_eq name (codes "apos")) _ _ c (named single_quote c refl)
-    (chosen (starts_with ◌==◌ name (codes "#x")) _ _ c (numbered_fits 16 (drop 2 name) c)
-    (chosen (starts_with ◌==◌ name (codes "#")) _ _ c (numbered_fits 10 (drop 1 name) c) (none_named c)))))))
+    either_is_character (bytes_eq name (codes "amp")) _ _ c (named_is_character ampersand c refl)
+    (either_is_character (bytes_eq name (codes "lt")) _ _ c (named_is_character less_than c refl)
+    (either_is_character (bytes_eq name (codes "gt")) _ _ c (named_is_character greater_than c refl)
+    (either_is_character (bytes_eq name (codes "quot")) _ _ c (named_is_character double_quote c refl)
+    (either_is_character (bytes_eq name (codes "apos")) _ _ c (named_is_character single_quote c refl)
+    (either_is_character (starts_with ◌==◌ name (codes "#x")) _ _ c (numbered_fits 16 (drop 2 name) c)
+    (either_is_character (starts_with ◌==◌ name (codes "#")) _ _ c (numbered_fits 10 (drop 1 name) c) (none_named c)))))))
 
 -- what written characters mean
 

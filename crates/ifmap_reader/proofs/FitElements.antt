@@ -160,10 +160,10 @@ abbrev IsFitItem : ContentItem → Type 0
 IsFitItem (Inner e declared) = IsFit e × AreFitDeclared declared
 IsFitItem (Run text) = IsCharacters text
 
-opened : (items : List ContentItem) → map out-Child (map child_of items) ≡ map item_child items
-opened [] = refl
-opened (Inner e d ∷ items) = λ i. out_element e i ∷ opened items i
-opened (Run t ∷ items) = λ i. out_text t i ∷ opened items i
+children_inside : (items : List ContentItem) → map out-Child (map child_of items) ≡ map item_child items
+children_inside [] = refl
+children_inside (Inner e d ∷ items) = λ i. out_element e i ∷ children_inside items i
+children_inside (Run t ∷ items) = λ i. out_text t i ∷ children_inside items i
 
 -- texts beside each other are joined
 
@@ -306,7 +306,7 @@ element_fits : (outer : Scope) (tag : Tag) (items : List ContentItem) (e : Eleme
 element_fits outer tag items e declared f t i is =
     let within = within_fits outer tag f t is.named.binds in
     let children : AreFitChildren (map out-Child (map child_of (children_among items))) = subst AreFitChildren
-    (sym (opened (children_among items))) (children_fit items i) in
+    (sym (children_inside (children_among items))) (children_fit items i) in
     let inner = inner_fit (children_among items) (left_fits (list_any is_inner items) (join_runs items) (joined_fits items i)) in
     fit_whole e
     (record {

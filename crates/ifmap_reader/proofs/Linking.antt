@@ -50,17 +50,17 @@ pub linked_tail : (xs ys : List OpenElement) → AreLinked (xs ++ ys) → AreLin
 linked_tail [] ys l = l
 linked_tail (x ∷ xs) ys l = linked_tail xs ys l.1
 
-parted : (xs : List OpenElement) (n : ℕ) → reverse xs ≡ reverse (drop n xs) ++ reverse (take n xs)
-parted xs n = ap reverse (sym (take-append-drop n xs)) ∙ reverse-append (take n xs) (drop n xs)
+reverse_in_parts : (xs : List OpenElement) (n : ℕ) → reverse xs ≡ reverse (drop n xs) ++ reverse (take n xs)
+reverse_in_parts xs n = ap reverse (sym (take-append-drop n xs)) ∙ reverse-append (take n xs) (drop n xs)
 
 pub linked_front : (xs : List OpenElement) (n : ℕ) → AreLinked (reverse xs) → AreLinked (reverse (take n xs))
-linked_front xs n l = linked_tail (reverse (drop n xs)) (reverse (take n xs)) (subst AreLinked (parted xs n) l)
+linked_front xs n l = linked_tail (reverse (drop n xs)) (reverse (take n xs)) (subst AreLinked (reverse_in_parts xs n) l)
 
 -- the outermost of some open elements
 outermost : (xs : List OpenElement) (n m : ℕ) → n ≤ m → m ≤ length xs
     → drop (length (reverse (take m xs)) - n) (reverse (take m xs)) ≡ reverse (take n xs)
 outermost xs n m l k =
-    ap (λ c. drop c (reverse (take m xs))) count ∙ ap (drop (length (reverse (drop n (take m xs))))) (parted (take m xs) n)
+    ap (λ c. drop c (reverse (take m xs))) count ∙ ap (drop (length (reverse (drop n (take m xs))))) (reverse_in_parts (take m xs) n)
     ∙ drop-append_seam (reverse (drop n (take m xs))) (reverse (take n (take m xs))) ∙ ap reverse front
   where
     count : length (reverse (take m xs)) - n ≡ length (reverse (drop n (take m xs)))

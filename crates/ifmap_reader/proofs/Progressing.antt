@@ -73,8 +73,8 @@ module _ (bytes : List ℕ) (depth : ℕ) (w : Where) (rest : List ℕ) (at : At
   open_after_is : open_after at.so_far ≡ open_in w
   open_after_is = let l = at.level in omega (arith, l)
 
-  counted : (p : Token → Bool) (t : Token) → count_by p (at.so_far ++ t ∷ []) ≡ count_by p at.so_far + one_if (p t)
-  counted p t =
+  count_with_next : (p : Token → Bool) (t : Token) → count_by p (at.so_far ++ t ∷ []) ≡ count_by p at.so_far + one_if (p t)
+  count_with_next p t =
       let a = sum_by-append (λ (u : Token). cond (p u) 1 0) at.so_far (t ∷ []) in
       let b = sum_by-cons (λ (u : Token). cond (p u) 1 0) t [] in
       let none : count_by p [] ≡ 0 = refl in
@@ -100,7 +100,8 @@ module _ (bytes : List ℕ) (depth : ℕ) (w : Where) (rest : List ℕ) (at : At
       ahead = ahead_next TakesToken (without_byte_order_mark bytes) at.so_far rest t left [] some is_only at.ahead;
       fits = l.fits at.fits;
       linked = l.linked at.linked;
-      level = let a = counted is_start t in let b = counted is_end t in let c = l.counts in let d = at.level in omega (arith, a, b, c, d);
+      level = let a = count_with_next is_start t in let b = count_with_next is_end t in
+          let c = l.counts in let d = at.level in omega (arith, a, b, c, d);
       shallow = λ before after u e o. elim (split_last at.so_far before after t u e) [
         | inl h ↦ at.shallow before h.0 u h.1 o
         | inr h ↦ let inside =

@@ -14,11 +14,11 @@ use Rattle.ifmap_requests.specs.RequestForms.{request_check}
 abbrev Found : Type 0
 Found = Result Request Code
 
-abbrev good : Request → Found
-good request = Ok request
+abbrev ok_result : Request → Found
+ok_result request = Ok request
 
-abbrev bad : Code → Found
-bad code = Err code
+abbrev err_result : Code → Found
+err_result code = Err code
 
 module _ (readings : OneReading) (envelopes : OneEnvelope) (requests : OneRequest) where
   found_in : (reading : Reading) (path route : List ℕ) (e f : Element) (one other : Found) → IsEnvelope reading.root path e
@@ -39,13 +39,14 @@ module _ (readings : OneReading) (envelopes : OneEnvelope) (requests : OneReques
       (subst (λ (r : Reading). request_check (scopes_from r b.path) b.inner other) (sym same) b.checked)
 
   pub meaning_one : (bytes : List ℕ) (one other : Result Request Refusal) → Means bytes one → Means bytes other → one ≡ other
-  meaning_one bytes (Ok r) (Ok s) a b = let same : good r ≡ good s = found_one bytes (Ok r) (Ok s) a b in let e : r ≡ s = cc in ap Ok e
-  meaning_one bytes (Ok r) (Err (Named c)) a b = let same : good r ≡ bad c = found_one bytes (Ok r) (Err c) a b in cc
+  meaning_one bytes (Ok r) (Ok s) a b = let same : ok_result r ≡ ok_result s = found_one bytes (Ok r) (Ok s) a b in
+      let e : r ≡ s = cc in ap Ok e
+  meaning_one bytes (Ok r) (Err (Named c)) a b = let same : ok_result r ≡ err_result c = found_one bytes (Ok r) (Err c) a b in cc
   meaning_one bytes (Ok r) (Err Unreadable) a b = absurd (b a.reading a.path a.inner a.envelope)
   meaning_one bytes (Ok r) (Err NoMemory) a b = absurd b
-  meaning_one bytes (Err (Named c)) (Ok s) a b = let same : bad c ≡ good s = found_one bytes (Err c) (Ok s) a b in cc
+  meaning_one bytes (Err (Named c)) (Ok s) a b = let same : err_result c ≡ ok_result s = found_one bytes (Err c) (Ok s) a b in cc
   meaning_one bytes (Err (Named c)) (Err (Named d)) a b =
-      let same : bad c ≡ bad d = found_one bytes (Err c) (Err d) a b in
+      let same : err_result c ≡ err_result d = found_one bytes (Err c) (Err d) a b in
       let e : c ≡ d = cc in
       ap (λ (x : Code). Err (Named x)) e
   meaning_one bytes (Err (Named c)) (Err Unreadable) a b = absurd (b a.reading a.path a.inner a.envelope)

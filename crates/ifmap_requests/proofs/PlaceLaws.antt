@@ -36,15 +36,15 @@ out_of_memory check error is = subst (λ (e : FormError). IsCheckRefusal check e
 module _ {X : Type 0} (check : Scopes → Element → Check X) (declared others : List Declared) (path route : List ℕ) (own : Option ℕ)
     (index : ℕ) (same_declared : others ≡ declared) (same_path : route ≡ path) (is_own : own ≡ Some index) (child : Child) (e : Element)
     (is : child ≡ the.Element e) where
-  moved : place_scopes others route own ≡ scopes_below (scopes_by declared path) index
-  moved = child_place declared others path route own index same_declared same_path is_own
+  scopes_of_place : place_scopes others route own ≡ scopes_below (scopes_by declared path) index
+  scopes_of_place = child_place declared others path route own index same_declared same_path is_own
 
   -- what is found of it there is found of the child
   pub child_found : (x : X) → check (place_scopes others route own) e (Ok x)
       → part_check (check (scopes_below (scopes_by declared path) index)) (out-Child child) (one_found (Some x))
   child_found x f =
       part_found (check (scopes_below (scopes_by declared path) index)) child e is x
-      (subst (λ (scopes : Scopes). check scopes e (Ok x)) moved f)
+      (subst (λ (scopes : Scopes). check scopes e (Ok x)) scopes_of_place f)
 
   -- and where it is refused, so is the child
   pub child_refused : (r : Result (Option X) FormError) (error : FormError) → IsErrAnd r (λ x. x ≡ error)
@@ -53,4 +53,4 @@ module _ {X : Type 0} (check : Scopes → Element → Check X) (declared others 
   child_refused r error exits f =
       let one = check (scopes_below (scopes_by declared path) index) in
       refused_exit (part_check one (out-Child child)) r error exits
-      (part_refused one child e is error (subst (λ (scopes : Scopes). IsCheckRefusal (check scopes e) error) moved f))
+      (part_refused one child e is error (subst (λ (scopes : Scopes). IsCheckRefusal (check scopes e) error) scopes_of_place f))

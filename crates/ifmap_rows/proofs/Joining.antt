@@ -57,14 +57,14 @@ module _ (list added next : List Stored) (up : IsStrictlySortedBy stored_order a
       (Contains-permutation next (list_without added list ++ added) s (IsPermutation-sym (list_without added list ++ added) next made)
       (from_has next s h))))
 
-  joined : (s : Stored) → Has added s ⊎ Has (list_without added list) s → Has (list_without added list ++ added) s
-  joined s (inl h) = has_right (list_without added list) added s h
-  joined s (inr h) = has_left (list_without added list) added s h
+  joined_has : (s : Stored) → Has added s ⊎ Has (list_without added list) s → Has (list_without added list ++ added) s
+  joined_has s (inl h) = has_right (list_without added list) added s h
+  joined_has s (inr h) = has_left (list_without added list) added s h
 
   back : (s : Stored) → Has added s ⊎ Has (list_without added list) s → Has next s
   back s h =
       has_from next s
-      (Contains-permutation (list_without added list ++ added) next s made (from_has (list_without added list ++ added) s (joined s h)))
+      (Contains-permutation (list_without added list ++ added) next s made (from_has (list_without added list ++ added) s (joined_has s h)))
 
   kept_apart : (D : Stored → Stored → Ordering) (o : IsTotalOrder D)
       → ((a s : Stored) → is_eq (D a s) ≡ true → is_eq (stored_order a s) ≡ true)

@@ -36,8 +36,9 @@ worded_differs : (a s : Stored) → is_eq (stored_order a s) ≡ false → is_eq
 worded_differs a s e = fails_too (is_eq (word_order a s)) (is_eq (stored_order a s)) (λ t. ap is_eq (worded_equal a s t)) e
 
 -- nothing has the bytes of a row that went
-gone : (r : Stored) (rows : List Stored) (s : Stored) → Has (without_one stored_order r rows) s → is_eq (stored_order r s) ≡ false
-gone r rows s h = not-true (is_eq (stored_order r s)) (filter_has (λ x. not (eq_by_cmp stored_order r x)) rows s h).1
+none_like_removed : (r : Stored) (rows : List Stored) (s : Stored)
+    → Has (without_one stored_order r rows) s → is_eq (stored_order r s) ≡ false
+none_like_removed r rows s h = not-true (is_eq (stored_order r s)) (filter_has (λ x. not (eq_by_cmp stored_order r x)) rows s h).1
 
 module _ (rows index : List Stored) (is : IsIndexed rows index) where
   -- the same rows may go from both lists
@@ -110,7 +111,7 @@ pub exchange_keeps_index : (rows index next : List Stored) (is : IsIndexed rows 
     → IfNone replaced (next ≡ put word_order a index) → IsIndexed (put stored_order a rows) next
 exchange_keeps_index rows index next is a (Some r) had none some other =
     let left = take_keeps rows index is a r had.0 had.1 in
-    let both = put_keeps (without_one stored_order a rows) (without_one word_order r index) left a (gone a rows) in
+    let both = put_keeps (without_one stored_order a rows) (without_one word_order r index) left a (none_like_removed a rows) in
     subst (IsIndexed (put stored_order a rows)) (sym some)
     (subst (λ (l : List Stored). IsIndexed l (put word_order a (without_one word_order r index)))
     (put_again Stored stored_order stored_total a rows) both)

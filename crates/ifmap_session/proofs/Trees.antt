@@ -28,8 +28,8 @@ half_of_none (suc n) = half_of_none n
 pub record Halved (node : ℕ) : Type 0 where
   pub is : (node ≡ 2 * (node / 2)) ⊎ (node ≡ 2 * (node / 2) + 1)
 
-halved : (node : ℕ) → Halved node
-halved node =
+half_of : (node : ℕ) → Halved node
+half_of node =
     let d = div-add-mod' node 2 in
     let m : node % 2 < 2 = mod-lt node (omega arith) in
     record { is = elim (cases_lt (node % 2) 1) [ inl low ↦ inl (omega arith) | inr high ↦ inr (omega arith) ] }
@@ -54,7 +54,7 @@ walk_begins width place stamp old t within = record {
   low = omega arith;
   high = omega arith;
   lesser = λ k one less.
-      let h = halved (width + place) in
+      let h = half_of (width + place) in
       elim (cases_lt ((width + place) / 2) k) [
         | inl below ↦ inl (kept k one less (elim h.is [ inl e ↦ omega arith | inr e ↦ omega arith ])
             (elim h.is [ inl e ↦ omega arith | inr e ↦ omega arith ]))
@@ -87,7 +87,7 @@ pub walk_on : (width place stamp : ℕ) (old tree : List ℕ) (node lesser : ℕ
     → Walks width place stamp old (set tree (node / 2) lesser) (node / 2)
 walk_on width place stamp old tree node lesser w more is = record {
   long = length-set tree (node / 2) lesser ∙ w.long;
-  low = elim (halved node).is [ inl e ↦ omega arith | inr e ↦ omega arith ];
+  low = elim (half_of node).is [ inl e ↦ omega arith | inr e ↦ omega arith ];
   high = omega arith;
   lesser = λ k one less. elim (cases_lt k (node / 2)) [
     | inl below ↦ other k one less (omega arith)
@@ -103,10 +103,10 @@ walk_on width place stamp old tree node lesser w more is = record {
   ];
 } where
   in_front : node / 2 < width
-  in_front = let h = w.high in elim (halved node).is [ inl e ↦ omega arith | inr e ↦ omega arith ]
+  in_front = let h = w.high in elim (half_of node).is [ inl e ↦ omega arith | inr e ↦ omega arith ]
 
   positive : 1 ≤ node / 2
-  positive = elim (halved node).is [ inl e ↦ omega arith | inr e ↦ omega arith ]
+  positive = elim (half_of node).is [ inl e ↦ omega arith | inr e ↦ omega arith ]
 
   here : IsLesser (set tree (node / 2) lesser) (node / 2)
   here =
@@ -132,7 +132,7 @@ walk_on width place stamp old tree node lesser w more is = record {
 
   other : (k : ℕ) → 1 ≤ k → k < width → k ≢ node / 2 → IsLesser (set tree (node / 2) lesser) k ⊎ Above k (node / 2)
   other k one less apart =
-      let h = halved (node / 2) in
+      let h = half_of (node / 2) in
       elim (cases_lt (node / 2 / 2) k) [
         | inl below ↦ elim (w.lesser k one less) [
           | inl was ↦ inl (kept k apart (elim h.is [ inl e ↦ omega arith | inr e ↦ omega arith ])
@@ -175,7 +175,7 @@ least_by zero width tree t k few one less = absurd (omega arith)
 least_by (suc fuel) width tree t k few one less =
     elim (cases_lt 1 k) [
       | inl more ↦
-          let h = halved k in
+          let h = half_of k in
           let p : 1 ≤ k / 2 = elim h.is [ inl e ↦ omega arith | inr e ↦ omega arith ] in
           let q : k / 2 < width = elim h.is [ inl e ↦ omega arith | inr e ↦ omega arith ] in
           let f : k / 2 ≤ fuel = elim h.is [ inl e ↦ omega arith | inr e ↦ omega arith ] in

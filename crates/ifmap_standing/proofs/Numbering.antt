@@ -25,19 +25,19 @@ use Rattle.ifmap_delta.specs.ifmap_region.DepthLaws.{depths_same, walk_over}
 use Rattle.ifmap_delta.specs.ifmap_fresh.laws.JoiningLaws.{some_if_met}
 
 -- what is stored on a link is stored between two identifiers
-named : (rows : List Attachment) (x y : Option Identifier) → stored_linked x y rows ≢ []
+ends_are_named : (rows : List Attachment) (x y : Option Identifier) → stored_linked x y rows ≢ []
     → (a : Identifier) × (b : Identifier) × (x ≡ Some a) × (y ≡ Some b)
-named rows None y n = absurd (n refl)
-named rows (Some a) None n = absurd (n refl)
-named rows (Some a) (Some b) n = (a, b, refl, refl)
+ends_are_named rows None y n = absurd (n refl)
+ends_are_named rows (Some a) None n = absurd (n refl)
+ends_are_named rows (Some a) (Some b) n = (a, b, refl, refl)
 
 module _ (g : ViewSeen) (s : Search) where
   abbrev Matches : ℕ → ℕ → Type 0
   Matches v w = one_meets s.match_links (stored_linked (g.id_at v) (g.id_at w) g.rows) ≡ true
 
-  ended : (v w : ℕ) (seen : Option LinkSeen) → end_where g.rows g.id_at s.match_links v seen ≡ Some w → Matches v w
-  ended v w None e = absurd (none-some w e)
-  ended v w (Some seen) e = taken (one_meets s.match_links (stored_linked (g.id_at v) (g.id_at seen.other) g.rows)) refl e
+  end_matches : (v w : ℕ) (seen : Option LinkSeen) → end_where g.rows g.id_at s.match_links v seen ≡ Some w → Matches v w
+  end_matches v w None e = absurd (none-some w e)
+  end_matches v w (Some seen) e = taken (one_meets s.match_links (stored_linked (g.id_at v) (g.id_at seen.other) g.rows)) refl e
     where
       taken : (b : Bool) → one_meets s.match_links (stored_linked (g.id_at v) (g.id_at seen.other) g.rows) ≡ b
           → cond b (Some seen.other) None ≡ Some w → Matches v w
@@ -45,7 +45,7 @@ module _ (g : ViewSeen) (s : Search) where
       taken false is k = absurd (none-some w k)
 
   linked_matches : (v w : ℕ) → Links g s v w → Matches v w
-  linked_matches v w l = ended v w (slice_get (g.links v) l.0) l.2
+  linked_matches v w l = end_matches v w (slice_get (g.links v) l.0) l.2
 
   matches_linked : IsView g.rows g.id_at g.links → (v w : ℕ) → Matches v w → Links g s v w
   matches_linked is v w m =
@@ -81,9 +81,9 @@ module _ (one other : ViewSeen) (s : Search) (was : IsView one.rows one.id_at on
   there v w l =
       let m = linked_matches one s v w l
       in let n = some_if_met s.match_links (stored_linked (one.id_at v) (one.id_at w) one.rows) m
-      in let a = named one.rows (one.id_at v) (one.id_at w) n
+      in let a = ends_are_named one.rows (one.id_at v) (one.id_at w) n
       in let c : Contains (others (other.links v)) w = subst (λ ls. Contains (others ls) w) (sym (links v)) (was.each v w n)
-      in let b = named other.rows (other.id_at v) (other.id_at w) (is.only v w c)
+      in let b = ends_are_named other.rows (other.id_at v) (other.id_at w) (is.only v w c)
       in (a.0, a.1, a.2, a.3, b.2 ∙ ap Some (ids v a.0 b.0 a.2 b.2), b.3 ∙ ap Some (ids w a.1 b.1 a.3 b.3))
 
   over : (v w : ℕ) → is_terminal_in one s v ≡ false → Links one s v w → (is_terminal_in other s v ≡ false) × Links other s v w

@@ -54,19 +54,19 @@ module _ (n : ℕ) where
         | inr miss ↦ rw miss (ap (λ t. x ∷ t) (only_one f g live s up.1 (rw miss at e) same))
       ]
 
-  numbered : (live : List Session) (s : Session) → session_with_serial n live ≡ Some s → (s.serial == n) ≡ true
-  numbered [] s e = cc
-  numbered (x ∷ live) s e =
+  session_has_serial : (live : List Session) (s : Session) → session_with_serial n live ≡ Some s → (s.serial == n) ≡ true
+  session_has_serial [] s e = cc
+  session_has_serial (x ∷ live) s e =
       elim (cases_Bool (x.serial == n)) [
         | inl hit ↦ let same : x ≡ s = cc (rw hit at e) in ap (λ (t : Session). t.serial == n) (sym same) ∙ hit
-        | inr miss ↦ numbered live s (rw miss at e)
+        | inr miss ↦ session_has_serial live s (rw miss at e)
       ]
 
   -- it is found still, as it is changed
   pub found_then : (f : Session → Session) → KeepsIdAndClient f → (live : List Session) (s : Session) → session_with_serial n live ≡ Some s
       → session_with_serial n (change n f live) ≡ Some (f s)
   found_then f k live s e =
-      found_changed n f k n live s e ∙ ap (λ b. Some (cond b (f s) s)) (numbered live s e)
+      found_changed n f k n live s e ∙ ap (λ b. Some (cond b (f s) s)) (session_has_serial live s e)
 
 pub live_then : (n : ℕ) (f : Session → Session) → KeepsIdAndClient f → (old new : SessionTable) → Changes n f old new → IsLive n old.live →
     IsLive n new.live

@@ -58,16 +58,16 @@ use Rattle.ifmap_elem.specs.Building.{is_name}
 -- ---- (1) checks taken apart
 
 module _ {X : Type 0} where
-  needed : (b : Bool) (code : Code) (check : Check X) (x : X) → need b code check (ok_value x) → (b ≡ true) × check (ok_value x)
-  needed true code check x h = (refl, h)
-  needed false code check x h = let wrong : ok_value x ≡ err_value code = h in cc
+  needed_holds : (b : Bool) (code : Code) (check : Check X) (x : X) → need b code check (ok_value x) → (b ≡ true) × check (ok_value x)
+  needed_holds true code check x h = (refl, h)
+  needed_holds false code check x h = let wrong : ok_value x ≡ err_value code = h in cc
 
   either_found : (b : Bool) (one other : Check X) (x : X) → check_if b one other (ok_value x) → one (ok_value x) ⊎ other (ok_value x)
   either_found true one other x h = inl h
   either_found false one other x h = inr h
 
-  passed : (x y : X) → ok_value x ≡ ok_value y → x ≡ y
-  passed x y h = cc
+  same_ok_values : (x y : X) → ok_value x ≡ ok_value y → x ≡ y
+  same_ok_values x y h = cc
 
 module _ {X Y : Type 0} where
   some_found : (code : Code) (o : Option X) (check : X → Check Y) (y : Y) → need_some code o check (ok_value y)
@@ -87,22 +87,22 @@ module _ {X A C : Type 0} (form : ElementForm A C) (make : A → C → X) (scope
   form_parts : form_check form make scopes e (ok_value x) → Parts
   form_parts h =
       let r = h.1 in
-      let inner = needed (has_only (form.passed_over ++ form.attributes.locals) e) Failure
+      let inner = needed_holds (has_only (form.passed_over ++ form.attributes.locals) e) Failure
       (check_then (form.content scopes (element_parts e)) (λ c. pass (both r.0 c))) h.0 r.2 in
-      let is : h.0 ≡ both r.0 inner.1.0 = passed h.0 (both r.0 inner.1.0) inner.1.2 in
+      let is : h.0 ≡ both r.0 inner.1.0 = same_ok_values h.0 (both r.0 inner.1.0) inner.1.2 in
       record {
         first = r.0;
         others = inner.1.0;
         attributes = r.1;
         content = inner.1.1;
-        made = passed x (make h.0.first h.0.others) h.2 ∙ ap (λ (b : Both A C). make b.first b.others) is;
+        made = same_ok_values x (make h.0.first h.0.others) h.2 ∙ ap (λ (b : Both A C). make b.first b.others) is;
       }
 
 module _ {X Y : Type 0} (field : Field X) (table : AttributeTable Y) (scope : Scope) (e : Element) (b : Both X Y) where
   beside_parts : (table_with field table).reads scope e (ok_value b)
       → field_check field scope e (ok_value b.first) × table.reads scope e (ok_value b.others)
   beside_parts h =
-      let is : both h.0 h.2.0 ≡ b = sym (passed b (both h.0 h.2.0) h.2.2) in (
+      let is : both h.0 h.2.0 ≡ b = sym (same_ok_values b (both h.0 h.2.0) h.2.2) in (
         subst (λ (c : Both X Y). field_check field scope e (ok_value c.first)) is h.1,
         subst (λ (c : Both X Y). table.reads scope e (ok_value c.others)) is h.2.1,
       )
@@ -112,29 +112,29 @@ module _ {X Y : Type 0} (field : Field X) (table : AttributeTable Y) (scope : Sc
 name_bounded : (o : Option (List ℕ)) (name : List ℕ) → read_name o (ok_value name) → IsBoundedName name
 name_bounded None name h = let wrong : ok_value name ≡ err_value Failure = h in cc
 name_bounded (Some text) name h =
-    let found = needed (nat_le 1 (length text) && nat_le (length text) longest_name) Failure (pass text) name h in
+    let found = needed_holds (nat_le 1 (length text) && nat_le (length text) longest_name) Failure (pass text) name h in
     let tests = and_parts (nat_le 1 (length text)) (nat_le (length text) longest_name) found.0 in
     let low = tests.0 in
     let high = tests.1 in
     let some : 1 ≤ length text = grind (arith, nat_tests) in
     let few : length text ≤ longest_name = grind (arith, nat_tests) in
-    subst IsBoundedName (sym (passed name text found.1)) (record { some = some; few = few })
+    subst IsBoundedName (sym (same_ok_values name text found.1)) (record { some = some; few = few })
 
 depth_bounded : (o : Option (List ℕ)) (n : ℕ) → read_depth o (ok_value n) → n < 2 ^ 32
-depth_bounded None n h = let is : n ≡ 0 = passed n 0 h in omega (arith, is)
+depth_bounded None n h = let is : n ≡ 0 = same_ok_values n 0 h in omega (arith, is)
 depth_bounded (Some text) n h =
     let found = some_found Failure (number_of_digits text) (λ m. need (nat_lt m (2 ^ 32)) Failure (pass m)) n h in
-    let tested = needed (nat_lt found.0 (2 ^ 32)) Failure (pass found.0) n found.2 in
+    let tested = needed_holds (nat_lt found.0 (2 ^ 32)) Failure (pass found.0) n found.2 in
     let test = tested.0 in
-    let is : n ≡ found.0 = passed n found.0 tested.1 in
+    let is : n ≡ found.0 = same_ok_values n found.0 tested.1 in
     let low : found.0 < 2 ^ 32 = grind (arith, nat_tests) in
     subst (λ (m : ℕ). m < 2 ^ 32) (sym is) low
 
 size_bounded : (o : Option (List ℕ)) (n : ℕ) → read_size o (ok_value n) → n ≤ greatest_size
-size_bounded None n h = let is : n ≡ usual_size = passed n usual_size h in omega (arith, is)
+size_bounded None n h = let is : n ≡ usual_size = same_ok_values n usual_size h in omega (arith, is)
 size_bounded (Some text) n h =
     let found = some_found Failure (number_of_digits text) (λ m. pass (min m greatest_size)) n h in
-    let is : n ≡ min found.0 greatest_size = passed n (min found.0 greatest_size) found.2 in
+    let is : n ≡ min found.0 greatest_size = same_ok_values n (min found.0 greatest_size) found.2 in
     omega (arith, is)
 
 search_bounded : (scope : Scope) (e : Element) (v : SearchValues) → search_attributes.reads scope e (ok_value v)
@@ -194,12 +194,12 @@ module _ {X : Type 0} (n : ℕ) (one : ℕ → Element → Check X) (P : X → T
     (gives : (index : ℕ) (e : Element) (x : X) → nesting e ≤ n → one index e (ok_value x) → P x) where
   each_given : (parts : List Part) (index : ℕ) (xs : List X) → AreLow n parts → each_element one index parts (ok_value xs)
       → AllByRecursion P xs
-  each_given [] index xs low h = subst (AllByRecursion P) (sym (passed xs [] h)) tt
+  each_given [] index xs low h = subst (AllByRecursion P) (sym (same_ok_values xs [] h)) tt
   each_given (Child-F.Element e ∷ parts) index xs low h =
-      subst (AllByRecursion P) (sym (passed xs (h.0 ∷ h.2.0) h.2.2))
+      subst (AllByRecursion P) (sym (same_ok_values xs (h.0 ∷ h.2.0) h.2.2))
       (gives index e h.0 low.0 h.1, each_given parts (index + 1) h.2.0 low.1 h.2.1)
   each_given (Child-F.Text text ∷ parts) index xs low h =
-      each_given parts (index + 1) xs low.1 (needed (list_all is_white text) Failure (each_element one (index + 1) parts) xs h).1
+      each_given parts (index + 1) xs low.1 (needed_holds (list_all is_white text) Failure (each_element one (index + 1) parts) xs h).1
 
 -- ---- (4) metadata
 
@@ -216,17 +216,17 @@ list_bounded : (e : Element) (elements : List Metadata) → nesting e ≤ 60 →
     → AllByRecursion IsBoundedMetadata elements
 list_bounded e elements low h =
     each_given 59 (λ index inner. metadata_check inner) IsBoundedMetadata metadata_bounded (element_parts e) 0 elements (parts_low 59 e low)
-    (needed (has_only [] e) Failure (each_element (λ index inner. metadata_check inner) 0 (element_parts e)) elements h).1
+    (needed_holds (has_only [] e) Failure (each_element (λ index inner. metadata_check inner) 0 (element_parts e)) elements h).1
 
 abbrev AreBounded : Option (List Metadata) → Type 0
 AreBounded list = IfSome list (λ elements. AllByRecursion IsBoundedMetadata elements)
 
 list_at_bounded : (parts : List Part) (list : Option (List Metadata)) → AreLow 60 parts → list_if_there metadata_check parts (ok_value list)
     → AreBounded list
-list_at_bounded [] list low h = subst AreBounded (sym (passed list None h)) tt
+list_at_bounded [] list low h = subst AreBounded (sym (same_ok_values list None h)) tt
 list_at_bounded (Child-F.Element e ∷ after) list low h =
-    let found = needed (list_all _ after) Failure (pass (Some h.0)) list h.2 in
-    subst AreBounded (sym (passed list (Some h.0) found.1)) (list_bounded e h.0 low.0 h.1)
+    let found = needed_holds (list_all _ after) Failure (pass (Some h.0)) list h.2 in
+    subst AreBounded (sym (same_ok_values list (Some h.0) found.1)) (list_bounded e h.0 low.0 h.1)
 list_at_bounded (Child-F.Text text ∷ after) list low h = let wrong : ok_value list ≡ err_value Failure = h in cc
 
 published_bounded : (parts : List Part) (b : Both Item (List Metadata)) → AreLow 60 parts → published_check parts (ok_value b)
@@ -236,7 +236,7 @@ published_bounded parts b low h =
     let at = list_at_bounded (from_list parts) list (from_low 60 parts low) h.2.1 in
     let item = some_found Failure (item_of h.0) (λ item. need_some Failure list (λ elements. pass (both item elements))) b h.2.2 in
     let elements = some_found Failure list (λ elements. pass (both item.0 elements)) b item.2 in
-    let is : both item.0 elements.0 ≡ b = sym (passed b (both item.0 elements.0) elements.2) in
+    let is : both item.0 elements.0 ≡ b = sym (same_ok_values b (both item.0 elements.0) elements.2) in
     subst (λ (c : Both Item (List Metadata)). AllByRecursion IsBoundedMetadata c.others) is (subst AreBounded elements.1 at)
 
 -- ---- (5) operations and requests
@@ -332,7 +332,7 @@ module _ (scopes : Scopes) (e : Element) (r : Request) where
 
   request_bounded : nesting e ≤ 62 → request_check scopes e (ok_value r) → IsBounded r
   request_bounded low h =
-      let named = (needed (bytes_eq e.name.space ifmap_space) InvalidSchemaVersion (named_request_check scopes e) r h).1 in
+      let named = (needed_holds (bytes_eq e.name.space ifmap_space) InvalidSchemaVersion (named_request_check scopes e) r h).1 in
       elim (either_found (is_name e.name publish_form.name) (form_check publish_form publish_of scopes e) (other_request_check scopes e) r
       named) [
         | inl found ↦

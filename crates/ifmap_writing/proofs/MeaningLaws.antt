@@ -132,18 +132,18 @@ module _ (canon : (i : Identifier) → IsIdentifier i → IsCanon (identifier_el
 
 -- ---- (3) answers
 
-abbrev good : Request → Result Request Refusal
-good r = Ok r
+abbrev ok_result : Request → Result Request Refusal
+ok_result r = Ok r
 
-abbrev bad : Refusal → Result Request Refusal
-bad refused = Err refused
+abbrev err_result : Refusal → Result Request Refusal
+err_result refused = Err refused
 
 -- what is answered to bytes that mean a request
 pub answered : OneMeaning → (bytes : List ℕ) (r : Request) → Means bytes (Ok r) → (result : Result Request Refusal)
     → IsBodyAnswer bytes result → MatchResult result (λ read. read ≡ r) (λ error. error ≡ refusal.NoMemory)
-answered one bytes r m (Ok other) a = let same : good other ≡ good r = one bytes (good other) (good r) a m in cc
+answered one bytes r m (Ok other) a = let same : ok_result other ≡ ok_result r = one bytes (ok_result other) (ok_result r) a m in cc
 answered one bytes r m (Err (refusal.Named code)) a =
-    let wrong : bad (refusal.Named code) ≡ good r = one bytes (bad (refusal.Named code)) (good r) a m in cc
+    let wrong : err_result (refusal.Named code) ≡ ok_result r = one bytes (err_result (refusal.Named code)) (ok_result r) a m in cc
 answered one bytes r m (Err refusal.Unreadable) a =
-    let wrong : bad refusal.Unreadable ≡ good r = one bytes (bad refusal.Unreadable) (good r) a m in cc
+    let wrong : err_result refusal.Unreadable ≡ ok_result r = one bytes (err_result refusal.Unreadable) (ok_result r) a m in cc
 answered one bytes r m (Err refusal.NoMemory) a = refl

@@ -88,8 +88,8 @@ module _ (token_or_none : (bytes : List ℕ) → Decided ((t : Token) × (rest :
   few_tokens bytes (t ∷ ts) rest l =
       let here = some_bytes bytes t l.0 l.1 in let others = few_tokens l.0 ts rest l.2 in omega (arith, here, others)
 
-  unmarked : (bytes : List ℕ) → length (without_byte_order_mark bytes) ≤ length bytes
-  unmarked bytes = by (starts_with ◌==◌ bytes byte_order_mark)
+  not_longer_without_mark : (bytes : List ℕ) → length (without_byte_order_mark bytes) ≤ length bytes
+  not_longer_without_mark bytes = by (starts_with ◌==◌ bytes byte_order_mark)
     where
       by : (b : Bool) → length (if b then drop 3 bytes else bytes) ≤ length bytes
       by true = omega (arith, length-drop 3 bytes)
@@ -98,7 +98,7 @@ module _ (token_or_none : (bytes : List ℕ) → Decided ((t : Token) × (rest :
   not_so_deep : (bytes : List ℕ) (at : ℕ) → Deep bytes (suc (length bytes)) at → ⊥
   not_so_deep bytes at d =
       let few = few_tokens (without_byte_order_mark bytes) d.tokens d.rest d.lexed in
-      let short = unmarked bytes in
+      let short = not_longer_without_mark bytes in
       let starts = count_by-le-length is_start d.tokens in
       let level = d.level_is in
       absurd (omega (arith, few, short, starts, level))

@@ -18,10 +18,10 @@ use Rattle.ifmap_tellings.specs.Tellings.{AllKept, kept_items}
 use Rattle.ifmap_changes.specs.KeptLaws.{error_keeps}
 
 -- the subscriptions of the session are gone
-left : (g : given.Over) (c : After-take_away g)
+left_without_session : (g : given.Over) (c : After-take_away g)
     → map standing_of (kept_items c.flag_session.new.pending.gone.items c.args.parts.now.standing.items)
     ≡ without_standing (c.args.serial ∷ []) (map standing_of (kept_items c.args.pending.now.gone.items c.args.parts.now.standing.items))
-left g c =
+left_without_session g c =
     subst (λ (l : List Standing). map standing_of (kept_items c.flag_session.new.pending.gone.items l)
     ≡ without_standing (c.args.serial ∷ []) (map standing_of (kept_items c.args.pending.now.gone.items l)))
     c.deref.ensures.value c.flag_session.ensures.left
@@ -45,7 +45,7 @@ returns-clause-told g c =
     ∙ ap (λ (l : List ℕ). overflow (tell (retract (Sessions l) (rows_now c.args.parts.now.graph)) []
     (state_now c.args.asking.now c.args.parts.now marked))) (serials g place)
     ∙ ap (λ (s : State). overflow (tell rows [] s))
-    (marked_state (c.args.serial ∷ []) c.args.asking.now c.args.parts.now c.args.pending.now marked (left g place)
+    (marked_state (c.args.serial ∷ []) c.args.asking.now c.args.parts.now c.args.pending.now marked (left_without_session g place)
     c.flag_session.ensures.tellings)) c.take_away.ensures.told
 
 pub returns-clause-bare : goal.returns-clause-bare
@@ -66,4 +66,4 @@ returns-clause-steps g c =
     let place = (goal.at.returns-clause-steps g c).After-take_away in
     let marked = c.flag_session.new.pending in
     ended_within c.args.asking.now c.args.parts.now c.args.pending.now marked c.args.serial c.push.new.self.items c.args.steps.now
-    c.take_away.new.steps (serials g place) (left g place) c.take_away.ensures.steps
+    c.take_away.new.steps (serials g place) (left_without_session g place) c.take_away.ensures.steps

@@ -9,16 +9,17 @@ use Rattle.ifmap_subscribes.specs.ifmap_standing.Standing.{standing_of}
 use Rattle.ifmap_subscribes.specs.ifmap_tellings.Tellings.{kept_items, tell_by}
 
 -- the sessions are left that have not expired
-left : (c : After-remove_gone)
+live_after_expiry : (c : After-remove_gone)
     → c.end_expired.new.sessions.live ≡ without_sessions c.args.asking.now.ended c.args.parts.now.sessions.live
-left c = c.end_expired.ensures.live ∙ ap (λ (a : Asking). without_sessions a.ended c.args.parts.now.sessions.live) c.asking.view_is
+live_after_expiry c =
+    c.end_expired.ensures.live ∙ ap (λ (a : Asking). without_sessions a.ended c.args.parts.now.sessions.live) c.asking.view_is
 
 -- they are told what was pending
 live : (c : After-remove_gone) → c.remove_gone.new.parts.sessions.live
     ≡ map (tell_by c.args.pending.tellings) (without_sessions c.args.asking.now.ended c.args.parts.now.sessions.live)
 live c =
     ap (λ (t : SessionTable). t.live) c.remove_gone.ensures.sessions ∙ c.tell_sessions.ensures.live
-    ∙ ap (map (tell_by c.args.pending.tellings)) (left c)
+    ∙ ap (map (tell_by c.args.pending.tellings)) (live_after_expiry c)
 
 counter : (c : After-remove_gone) → c.remove_gone.new.parts.sessions.counter ≡ c.args.parts.now.sessions.counter
 counter c =
@@ -56,7 +57,7 @@ apply_completion-requires c =
     record {
       can = can_apply c.args.asking.now old new c.args.pending c.requires.ready (live place) (standing place) c.remove_gone.ensures.kept
           (counter place) room
-          (λ n l. let there = subst (IsLive n) (sym (left place)) l in
+          (λ n l. let there = subst (IsLive n) (sym (live_after_expiry place)) l in
           let first = c.end_expired.ensures.spare n there in
           let then_told = c.tell_sessions.ensures.spare n in
           let same = ap (λ (t : SessionTable). spare_of n t.spare) c.remove_gone.ensures.sessions in omega (arith, first, then_told, same))

@@ -16,10 +16,10 @@ none c =
     (ap (λ m. m.entries) c.flag_sessions.ensures.tellings ∙ c.in_ok-pending.ensures.none)
 
 -- the subscriptions of the sessions that have expired are gone
-gone : (c : After-flag_sessions)
+kept_without_ended : (c : After-flag_sessions)
     → map standing_of (kept_items c.flag_sessions.new.pending.gone.items c.args.parts.now.standing.items)
     ≡ without_standing c.args.asking.now.ended (map standing_of c.args.parts.now.standing.items)
-gone c =
+kept_without_ended c =
     let first = c.in_ok-pending.ensures in
     begins_gone c.in_ok-pending.pending.gone.items c.flag_sessions.new.pending.gone.items _ c.args.asking.now.ended c.deref.result.now
     c.args.parts.now.standing.items c.deref.ensures.value (ap (λ (a : Asking). a.ended) c.asking.view_is) c.flag_sessions.ensures.left
@@ -28,10 +28,12 @@ gone c =
 pub returns-clause-ready : goal.returns-clause-ready
 returns-clause-ready c =
     let place = (goal.at.returns-clause-ready c).After-flag_sessions in
-    begins_ready c.args.asking.now c.args.parts.now c.flag_sessions.new.pending c.requires.parts c.requires.ended (none place) (gone place)
+    begins_ready c.args.asking.now c.args.parts.now c.flag_sessions.new.pending c.requires.parts c.requires.ended
+    (none place) (kept_without_ended place)
     (c.flag_sessions.ensures.flags ∙ ap length c.deref.ensures.value)
 
 pub returns-clause-state_now : goal.returns-clause-state_now
 returns-clause-state_now c =
     let place = (goal.at.returns-clause-state_now c).After-flag_sessions in
-    begins_so_far c.args.asking.now c.args.parts.now c.flag_sessions.new.pending c.requires.parts c.requires.ended (none place) (gone place)
+    begins_so_far c.args.asking.now c.args.parts.now c.flag_sessions.new.pending c.requires.parts c.requires.ended
+    (none place) (kept_without_ended place)

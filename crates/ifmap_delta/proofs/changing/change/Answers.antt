@@ -18,11 +18,11 @@ use Rattle.ifmap_delta.proofs.changing.change.Goals.{After-touched_items}
 use Rattle.ifmap_folds.specs.laws.FoldingLaws.{fresh_rises}
 
 -- the steps of the repair and of looking for what may tell something, however the call ends
-looked : (g : given.Over) (c : After-touched_items g)
+steps_within_bound : (g : given.Over) (c : After-touched_items g)
     → IsWithinBound (view_seen g.G.View.rows g.G.View.id_at g.G.View.links c.args.graph.now)
     (view_seen g.D.View.rows g.D.View.id_at g.D.View.links c.args.draft.now) c.args.subscription.now.search
     c.args.subscription.now.region.start c.args.steps.now c.touched_items.new.steps
-looked g c =
+steps_within_bound g c =
     let old = view_seen g.G.View.rows g.G.View.id_at g.G.View.links c.args.graph.now
     in let new = view_seen g.D.View.rows g.D.View.id_at g.D.View.links c.args.draft.now
     in let sub = c.args.subscription.now
@@ -86,16 +86,16 @@ differences_on-requires-clause-change g c =
     in subst (λ cs. IsAfter cs old.rows new.rows) (sym at) c.requires.planned.change.after
 
 pub returns-in_err-items-clause-steps : goal.returns-in_err-items-clause-steps
-returns-in_err-items-clause-steps g c = looked g (goal.at.returns-in_err-items-clause-steps g c).After-touched_items
+returns-in_err-items-clause-steps g c = steps_within_bound g (goal.at.returns-in_err-items-clause-steps g c).After-touched_items
 
 pub returns-in_err-told-clause-steps : goal.returns-in_err-told-clause-steps
-returns-in_err-told-clause-steps g c = looked g (goal.at.returns-in_err-told-clause-steps g c).After-touched_items
+returns-in_err-told-clause-steps g c = steps_within_bound g (goal.at.returns-in_err-told-clause-steps g c).After-touched_items
 
 pub returns-in_default-clause-steps : goal.returns-in_default-clause-steps
-returns-in_default-clause-steps g c = looked g (goal.at.returns-in_default-clause-steps g c).After-touched_items
+returns-in_default-clause-steps g c = steps_within_bound g (goal.at.returns-in_default-clause-steps g c).After-touched_items
 
 pub returns-clause-steps : goal.returns-clause-steps
-returns-clause-steps g c = looked g (goal.at.returns-clause-steps g c).After-touched_items
+returns-clause-steps g c = steps_within_bound g (goal.at.returns-clause-steps g c).After-touched_items
 
 pub returns-clause-moved : goal.returns-clause-moved
 returns-clause-moved g c =

@@ -15,10 +15,10 @@ use Rattle.ifmap_fresh.proofs.finding.items_from.Goals as goal
 use Rattle.ifmap_fresh.proofs.finding.items_from.Goals.{After-build, After-collect}
 
 -- the steps of the walks, whether there is memory or not
-walked : (g : given.Over) (c : After-build g)
+walk_steps_within : (g : given.Over) (c : After-build g)
     → IsWithin (λ v. length (g.V.View.links c.args.view.now v))
     (IsReachedAt (g.V.View.rows c.args.view.now) (g.V.View.id_at c.args.view.now) c.args.search.now) 1 c.args.steps.now c.build.new.steps
-walked g c =
+walk_steps_within g c =
     let view = c.args.view.now
     in steps_are (g.V.View.rows view) (g.V.View.id_at view) (g.V.View.links view) c.args.search.now c.requires.whole c.args.start
     c.requires.start
@@ -43,7 +43,7 @@ returns-in_err-region-clause-steps g c =
     let view = c.args.view.now
     in within_more (λ v. length (g.V.View.links view v)) (IsReachedAt (g.V.View.rows view)
     (g.V.View.id_at view) c.args.search.now) 1 2 c.args.steps.now c.build.new.steps (omega arith)
-    (walked g (goal.at.returns-in_err-region-clause-steps g c).After-build)
+    (walk_steps_within g (goal.at.returns-in_err-region-clause-steps g c).After-build)
 
 pub returns-clause-there : goal.returns-clause-there
 returns-clause-there g c =
@@ -67,7 +67,7 @@ returns-clause-steps g c =
     in reached_is (g.V.View.rows view) (g.V.View.id_at view)
     (g.V.View.links view) c.args.search.now c.requires.whole c.args.start c.requires.start v (m.0, w.0, w.1)
     in within_both weight Among 1 1 c.args.steps.now c.build.new.steps c.collect.new.steps
-    (walked g (goal.at.returns-clause-steps g c).After-build)
+    (walk_steps_within g (goal.at.returns-clause-steps g c).After-build)
     (record {
       numbers = numbers_of es;
       distinct = c.collect.ensures.apart;

@@ -14,16 +14,16 @@ stamps_alone (x ∷ xs) = elim (cases_Bool (is_stamp x)) [
 ]
 
 -- at the end of the one, the rest of the other is stamps alone
-ended : (one rest : List Attribute) (i : ℕ) (r : Bool) (P : Type 0) → length one ≤ i
+rest_is_stamps : (one rest : List Attribute) (i : ℕ) (r : Bool) (P : Type 0) → length one ≤ i
     → (P ↔ (without_stamps (drop i one) ≡ without_stamps rest)) → r ≡ list_all is_stamp rest → IsTrue r ↔ P
-ended one rest i r P l h e = (
+rest_is_stamps one rest i r P l h e = (
   λ t. h.1 (ap without_stamps (drop_of_length-le one l) ∙ (stamps_alone rest).0 (sym e ∙ t)),
   λ p. e ∙ (stamps_alone rest).1 (sym (ap without_stamps (drop_of_length-le one l)) ∙ h.0 p),
 )
 
 pub returns : goal.returns
 returns c =
-    ended c.args.one.now c.loop-attribute.rest.now c.loop-attribute.attribute-index c.are_stamps.result
+    rest_is_stamps c.args.one.now c.loop-attribute.rest.now c.loop-attribute.attribute-index c.are_stamps.result
     (without_stamps c.args.one.now ≡ without_stamps c.args.other.now)
     (omega (arith, c.loop-attribute-test.false, c.loop-attribute.auto.attribute-index-end)) c.loop-attribute.invariant
     c.are_stamps.ensures

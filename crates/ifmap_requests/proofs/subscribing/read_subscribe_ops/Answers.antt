@@ -16,10 +16,10 @@ abbrev one : Scopes → ℕ → Element → Check SubscribeOp
 one scopes index e = subscribe_op_check (scopes_below scopes index) e
 
 -- the child of this turn, and those after it, are what is left
-left : (c : After-next_op)
+left_at_turn : (c : After-next_op)
     → drop c.loop-index.index c.args.children.now
     ≡ c.index-children-index.result ∷ drop (c.loop-index.index + 1) c.args.children.now
-left c =
+left_at_turn c =
     drop_more c.args.children.now c.loop-index.index c.index-children-index.result c.loop-index-test.true
     ∙ ap (λ (x : Child). x ∷ drop (c.loop-index.index + 1) c.args.children.now) (sym c.index-children-index.is)
 
@@ -32,7 +32,7 @@ returns-in_err-found c =
     let child = c.index-children-index.result in
     refused_exit whole c.from_residual.result c.in_err-found.field-0.0 c.from_residual.ensures.1
     (elements_stop whole (one scopes) i (drop i children) c.loop-index.ops.items c.loop-index.invariant child (drop (i + 1) children)
-    (left (goal.at.returns-in_err-found c).After-next_op) c.in_err-found.field-0.0 c.in_err-found.ensures)
+    (left_at_turn (goal.at.returns-in_err-found c).After-next_op) c.in_err-found.field-0.0 c.in_err-found.ensures)
 
 pub loop-index-preserved : goal.loop-index-preserved
 loop-index-preserved c =
@@ -42,7 +42,7 @@ loop-index-preserved c =
     let i = c.loop-index.index in
     let child = c.index-children-index.result in
     elements_further whole (one scopes) i (drop i children) c.loop-index.ops.items c.loop-index.invariant child (drop (i + 1) children)
-    (left (goal.at.loop-index-preserved c).After-next_op) c.in_ok-found.found c.keep_found.new.members.items c.in_ok-found.ensures
+    (left_at_turn (goal.at.loop-index-preserved c).After-next_op) c.in_ok-found.found c.keep_found.new.members.items c.in_ok-found.ensures
     c.in_ok-keep_found.ensures
 
 pub returns : goal.returns

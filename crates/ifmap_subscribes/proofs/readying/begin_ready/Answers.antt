@@ -9,9 +9,10 @@ use Rattle.ifmap_subscribes.proofs.readying.begin_ready.Given as given
 use Rattle.ifmap_subscribes.proofs.readying.begin_ready.Goals as goal
 use Rattle.ifmap_subscribes.proofs.readying.begin_ready.Goals.{After-make_room}
 
-noted : (g : given.Over) (c : After-make_room g) → HasNoted c.args.scene.now.serial (told_in_scene c.args.scene.now c.args.parts.now)
+room_is_noted : (g : given.Over) (c : After-make_room g)
+    → HasNoted c.args.scene.now.serial (told_in_scene c.args.scene.now c.args.parts.now)
     c.args.readying.now c.make_room.new.readying c.in_ok-copy.field-0 c.args.wish.now.before
-noted g c =
+room_is_noted g c =
     let s = c.args.scene.now in
     let u = told_then s c.args.parts.now c.args.readying.now in
     record {
@@ -24,7 +25,7 @@ pub returns-in_err-make_room-clause-can : goal.returns-in_err-make_room-clause-c
 returns-in_err-make_room-clause-can g c = record {
   ready = c.requires.can.ready;
   live = c.requires.can.live;
-  readied = readied_noted (noted g (goal.at.returns-in_err-make_room-clause-can g c).After-make_room) c.args.parts.now
+  readied = readied_noted (room_is_noted g (goal.at.returns-in_err-make_room-clause-can g c).After-make_room) c.args.parts.now
       c.requires.can.readied.stand;
 }
 
@@ -35,18 +36,19 @@ returns-in_err-renaming-clause-can g c =
     let made = c.deref.ensures.value ∙ c.make_room.ensures.noted.made in
     let stand = subst (λ rs. CanStand s.serial q rs) made c.in_err-renaming.ensures.err in
     can_on s c.args.parts.now q c.make_room.new.readying c.begin_beside.ensures.holds c.begin_beside.ensures.ready c.requires.can.live
-    (readied_noted (noted g (goal.at.returns-in_err-renaming-clause-can g c).After-make_room) q stand)
+    (readied_noted (room_is_noted g (goal.at.returns-in_err-renaming-clause-can g c).After-make_room) q stand)
 
 pub add_renaming-requires-clause-count : goal.add_renaming-requires-clause-count
-add_renaming-requires-clause-count g c = (can_add (noted g (goal.at.add_renaming-requires-clause-count g c).After-make_room)).count
+add_renaming-requires-clause-count g c = (can_add (room_is_noted g (goal.at.add_renaming-requires-clause-count g c).After-make_room)).count
 
 pub add_renaming-requires-clause-size : goal.add_renaming-requires-clause-size
-add_renaming-requires-clause-size g c = (can_add (noted g (goal.at.add_renaming-requires-clause-size g c).After-make_room)).size
+add_renaming-requires-clause-size g c = (can_add (room_is_noted g (goal.at.add_renaming-requires-clause-size g c).After-make_room)).size
 
 pub returns-clause-op : goal.returns-clause-op
 returns-clause-op g c =
     let wish = c.args.wish.now in
-    begun_more_told (noted g (goal.at.returns-clause-op g c).After-make_room) c.add_renaming.ensures (rows_now c.args.parts.now.graph)
+    begun_more_told (room_is_noted g (goal.at.returns-clause-op g c).After-make_room) c.add_renaming.ensures
+    (rows_now c.args.parts.now.graph)
     wish.name.now wish.search.now c.in_ok-renaming.ensures.begun
 
 pub returns-clause-can : goal.returns-clause-can
@@ -66,5 +68,6 @@ returns-clause-can g c =
     let room = room_for n wish.name.now (told_in_scene s p) old wish.before c.requires.can.readied.counted c.requires.before c.requires.room
     r.standing in
     can_on s p q c.add_renaming.new.readying c.begin_beside.ensures.holds c.begin_beside.ensures.ready c.requires.can.live
-    (readied_more (noted g (goal.at.returns-clause-can g c).After-make_room) c.add_renaming.ensures q (e.name ∙ sym c.in_ok-copy.ensures)
+    (readied_more (room_is_noted g (goal.at.returns-clause-can g c).After-make_room) c.add_renaming.ensures q
+    (e.name ∙ sym c.in_ok-copy.ensures)
     own.0 told e.small c.in_ok-make_room.ensures.few room stand)

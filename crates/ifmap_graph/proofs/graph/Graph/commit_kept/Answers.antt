@@ -15,9 +15,9 @@ use Rattle.ifmap_graph.proofs.graph.Graph.commit_kept.Goals as goal
 use Rattle.ifmap_graph.proofs.graph.Graph.commit_kept.Goals.{After-accept_all}
 
 -- what the two calls did
-made : (c : After-accept_all) → IsMadeOf c.self.inside.names c.self.inside.shelves c.accept_changes.new.shelves
+calls_make_change : (c : After-accept_all) → IsMadeOf c.self.inside.names c.self.inside.shelves c.accept_changes.new.shelves
     c.self.inside.links.items c.accept_all.new.lists.items c.args.ready
-made c =
+calls_make_change c =
     let q = rw (← c.self.view_is) at c.requires
     in record {
       is = c.self.invariant;
@@ -49,7 +49,7 @@ accept_all-requires c =
     in subst (λ w. AreDrafted w c.self.inside.links.items) (sym (c.ways.view_is ∙ ap (λ r. r.ways) c.ready.view_is)) q.links
 
 pub invariant_of-self : goal.invariant_of-self
-invariant_of-self c = made_inside (made (goal.at.invariant_of-self c).After-accept_all)
+invariant_of-self c = made_inside (calls_make_change (goal.at.invariant_of-self c).After-accept_all)
 
 pub returns-clause-now : goal.returns-clause-now
 returns-clause-now c =
@@ -65,7 +65,7 @@ returns-clause-next c =
     ∙ sym (rows_shown list_next (get c.self.inside.shelves.slots) c.self.inside.shelves.places.entries))
 
 pub returns-clause-links : goal.returns-clause-links
-returns-clause-links c = rw (← c.self.view_is) (made_links (made (goal.at.returns-clause-links c).After-accept_all))
+returns-clause-links c = rw (← c.self.view_is) (made_links (calls_make_change (goal.at.returns-clause-links c).After-accept_all))
 
 pub returns-clause-lists : goal.returns-clause-lists
 returns-clause-lists c =
@@ -86,20 +86,20 @@ returns-clause-plan c = ap (λ r. r.plan) c.ready.view_is
 
 pub returns-clause-back : goal.returns-clause-back
 returns-clause-back c =
-    let m = made (goal.at.returns-clause-back c).After-accept_all
+    let m = calls_make_change (goal.at.returns-clause-back c).After-accept_all
     in rw (← c.self.view_is)
     (can_go_back c.self.inside.names c.self.inside.shelves c.accept_changes.new.shelves c.self.inside.links.items
     c.accept_all.new.lists.items m.is m.stay.places m.stay.ends m.stay.waits m.rows c.args.ready _ m.out m.drafted m.others m.turned
     (returns-clause-plan c) (rw (← c.self.view_is) at (returns-clause-lists c)) (rw (← c.self.view_is) at (returns-clause-ways c)))
 
 pub returns-clause-still : goal.returns-clause-still
-returns-clause-still c = made_still (made (goal.at.returns-clause-still c).After-accept_all)
+returns-clause-still c = made_still (calls_make_change (goal.at.returns-clause-still c).After-accept_all)
 
 pub returns-clause-own : goal.returns-clause-own
-returns-clause-own c = rw (← c.self.view_is) (made_own (made (goal.at.returns-clause-own c).After-accept_all))
+returns-clause-own c = rw (← c.self.view_is) (made_own (calls_make_change (goal.at.returns-clause-own c).After-accept_all))
 
 pub returns-clause-waits : goal.returns-clause-waits
-returns-clause-waits c = rw (← c.self.view_is) (made_waits (made (goal.at.returns-clause-waits c).After-accept_all))
+returns-clause-waits c = rw (← c.self.view_is) (made_waits (calls_make_change (goal.at.returns-clause-waits c).After-accept_all))
 
 pub returns-clause-lean : goal.returns-clause-lean
-returns-clause-lean c = rw (← c.self.view_is) (made_lean (made (goal.at.returns-clause-lean c).After-accept_all))
+returns-clause-lean c = rw (← c.self.view_is) (made_lean (calls_make_change (goal.at.returns-clause-lean c).After-accept_all))

@@ -8,9 +8,9 @@ use Rattle.ifmap_graph.proofs.graph.Graph.release.Goals as goal
 use Rattle.ifmap_graph.proofs.graph.Graph.release.Goals.{After-release}
 
 -- the shelves and the links stay
-kept : (c : After-release)
+shelves_stay : (c : After-release)
     → KeepsShelves c.args.self.now (inside_of c.release.new.self c.self.inside.shelves c.self.inside.links.items)
-kept c =
+shelves_stay c =
     shelves_kept c.self.inside.names c.release.new.self c.self.inside.shelves c.self.inside.links.items c.self.inside.links.items
     c.self.view_is (λ v. refl) (omega arith)
 
@@ -47,13 +47,13 @@ returns-clause-stays c =
     c.release.ensures.kept c.release.ensures.last c.release.ensures.counted c.release.ensures.others)
 
 pub returns-clause-still : goal.returns-clause-still
-returns-clause-still c = (kept (goal.at.returns-clause-still c).After-release).still
+returns-clause-still c = (shelves_stay (goal.at.returns-clause-still c).After-release).still
 
 pub returns-clause-waits : goal.returns-clause-waits
-returns-clause-waits c = (kept (goal.at.returns-clause-waits c).After-release).waits
+returns-clause-waits c = (shelves_stay (goal.at.returns-clause-waits c).After-release).waits
 
 pub returns-clause-backs : goal.returns-clause-backs
-returns-clause-backs c = (kept (goal.at.returns-clause-backs c).After-release).backs
+returns-clause-backs c = (shelves_stay (goal.at.returns-clause-backs c).After-release).backs
 
 pub returns-clause-lean : goal.returns-clause-lean
-returns-clause-lean c = (kept (goal.at.returns-clause-lean c).After-release).lean
+returns-clause-lean c = (shelves_stay (goal.at.returns-clause-lean c).After-release).lean

@@ -6,9 +6,9 @@ use Rattle.ifmap_graph.proofs.graph.Graph.release_waits.Goals as goal
 use Rattle.ifmap_graph.proofs.graph.Graph.release_waits.Goals.{After-release_items}
 
 -- what the call did
-released : (c : After-release_items) → AreReleased (items_changed c.args.changes.now) c.args.self.now
+items_are_released : (c : After-release_items) → AreReleased (items_changed c.args.changes.now) c.args.self.now
     (inside_of c.release_items.new.names c.release_items.new.shelves c.self.inside.links.items)
-released c =
+items_are_released c =
     let q = rw (← c.self.view_is) at c.requires
     in are_released c.self.inside.names c.release_items.new.names c.self.inside.shelves c.release_items.new.shelves
     c.self.inside.links.items (items_changed c.args.changes.now) c.release_items.ensures.less c.self.invariant.placed
@@ -37,25 +37,25 @@ returns-clause-numbers c =
     (c.release_items.ensures.less.inside c.self.inside.links.items c.self.invariant).keys c.self.invariant.keys)
 
 pub returns-clause-now : goal.returns-clause-now
-returns-clause-now c = (released (goal.at.returns-clause-now c).After-release_items).now
+returns-clause-now c = (items_are_released (goal.at.returns-clause-now c).After-release_items).now
 
 pub returns-clause-next : goal.returns-clause-next
-returns-clause-next c = (released (goal.at.returns-clause-next c).After-release_items).next
+returns-clause-next c = (items_are_released (goal.at.returns-clause-next c).After-release_items).next
 
 pub returns-clause-still : goal.returns-clause-still
-returns-clause-still c = (released (goal.at.returns-clause-still c).After-release_items).still
+returns-clause-still c = (items_are_released (goal.at.returns-clause-still c).After-release_items).still
 
 pub returns-clause-own : goal.returns-clause-own
-returns-clause-own c = (released (goal.at.returns-clause-own c).After-release_items).own
+returns-clause-own c = (items_are_released (goal.at.returns-clause-own c).After-release_items).own
 
 pub returns-clause-waits : goal.returns-clause-waits
-returns-clause-waits c = (released (goal.at.returns-clause-waits c).After-release_items).waits
+returns-clause-waits c = (items_are_released (goal.at.returns-clause-waits c).After-release_items).waits
 
 pub returns-clause-stay : goal.returns-clause-stay
-returns-clause-stay c = (released (goal.at.returns-clause-stay c).After-release_items).stay
+returns-clause-stay c = (items_are_released (goal.at.returns-clause-stay c).After-release_items).stay
 
 pub returns-clause-backs : goal.returns-clause-backs
-returns-clause-backs c = (released (goal.at.returns-clause-backs c).After-release_items).backs
+returns-clause-backs c = (items_are_released (goal.at.returns-clause-backs c).After-release_items).backs
 
 pub returns-clause-lean : goal.returns-clause-lean
-returns-clause-lean c = (released (goal.at.returns-clause-lean c).After-release_items).lean
+returns-clause-lean c = (items_are_released (goal.at.returns-clause-lean c).After-release_items).lean

@@ -21,9 +21,9 @@ unmade c =
     c.self.invariant.keys
 
 -- the change is out
-made : (c : In_ok-make_ready)
+change_comes_out : (c : In_ok-make_ready)
     → ComesOut c.args.plan.changes c.args.self.now (inside_of c.make_ready.new.names c.make_ready.new.shelves c.make_ready.new.links.items)
-made c =
+change_comes_out c =
     made_seen c.self.inside.names c.make_ready.new.names c.self.inside.shelves c.make_ready.new.shelves c.self.inside.links.items
     c.make_ready.new.links.items c.args.plan.changes c.make_ready.new.ways.items
     (subst (λ l. IsMade l c.make_ready.new.ways.items (graph_fields c.self.inside.names c.self.inside.shelves c.self.inside.links.items)
@@ -76,22 +76,22 @@ returns-clause-out c =
     (c.in_ok-lists.ensures ∙ c.len.ensures ∙ sym c.deref.ensures.len) refl
 
 pub returns-clause-after : goal.returns-clause-after
-returns-clause-after c = (made (goal.at.returns-clause-after c).In_ok-make_ready).after
+returns-clause-after c = (change_comes_out (goal.at.returns-clause-after c).In_ok-make_ready).after
 
 pub returns-clause-now : goal.returns-clause-now
-returns-clause-now c = (made (goal.at.returns-clause-now c).In_ok-make_ready).now
+returns-clause-now c = (change_comes_out (goal.at.returns-clause-now c).In_ok-make_ready).now
 
 pub returns-clause-numbers : goal.returns-clause-numbers
-returns-clause-numbers c = (made (goal.at.returns-clause-numbers c).In_ok-make_ready).numbers
+returns-clause-numbers c = (change_comes_out (goal.at.returns-clause-numbers c).In_ok-make_ready).numbers
 
 pub returns-clause-own : goal.returns-clause-own
-returns-clause-own c = (made (goal.at.returns-clause-own c).In_ok-make_ready).own
+returns-clause-own c = (change_comes_out (goal.at.returns-clause-own c).In_ok-make_ready).own
 
 pub returns-clause-waits : goal.returns-clause-waits
-returns-clause-waits c = (made (goal.at.returns-clause-waits c).In_ok-make_ready).waits
+returns-clause-waits c = (change_comes_out (goal.at.returns-clause-waits c).In_ok-make_ready).waits
 
 pub returns-clause-backs : goal.returns-clause-backs
-returns-clause-backs c = (made (goal.at.returns-clause-backs c).In_ok-make_ready).backs
+returns-clause-backs c = (change_comes_out (goal.at.returns-clause-backs c).In_ok-make_ready).backs
 
 pub returns-clause-lean : goal.returns-clause-lean
-returns-clause-lean c = (made (goal.at.returns-clause-lean c).In_ok-make_ready).lean
+returns-clause-lean c = (change_comes_out (goal.at.returns-clause-lean c).In_ok-make_ready).lean

@@ -25,12 +25,12 @@ there : (g : given.Over) (c : After-slot_of_live g)
 there g c = rw c.deref-in-Ok.ensures.value at c.slot_of_live.ensures
 
 -- its count is one more, and nothing else changes
-counted : (g : given.Over) (c : After-set_holds g)
+count_rises : (g : given.Over) (c : After-set_holds g)
     → IsKept g.K.Ord.cmp c.set_holds.new.slots.items c.self.inside.free.items c.self.inside.order.items (vec_len c.self.inside.order)
     c.self.inside.limit
     × HoldsAgain c.args.self.now (holdings_of c.set_holds.new.slots.items (vec_len c.self.inside.order) c.self.inside.limit)
     c.index-number.result.now
-counted g c =
+count_rises g c =
     let at = rw c.deref-in-Ok.ensures.value at c.slot_of_live.ensures in
     write_count c.self.invariant.0 c.self.view_is g.met.K.Ord.total c.index-number.result.now c.slot_of_live.result.now at (λ n. n + 1)
     (omega arith) (c.set_holds.ensures.items c.slot_of_live.result.now at)
@@ -43,12 +43,12 @@ room : (g : given.Over) (c : In-Err g) → slot_count c.self.inside.slots.items 
 room g c = room_for_new c.self.invariant.0 c.self.view_is g.met.K.Ord.total c.args.key c.in-Err.place (missing g c) c.requires.room
 
 -- the key moves in, under the number of an empty slot
-taken : (g : given.Over) (c : After-list_number g) → slot_count c.self.inside.slots.items < c.self.inside.limit
+key_moves_in : (g : given.Over) (c : After-list_number g) → slot_count c.self.inside.slots.items < c.self.inside.limit
     → IsKept g.K.Ord.cmp c.fill_slot-number.new.slots.items c.fill_slot-number.new.free.items c.list_number.new.order.items
     (vec_len c.list_number.new.order) c.self.inside.limit
     × TakesNumber c.args.self.now (holdings_of c.fill_slot-number.new.slots.items (vec_len c.list_number.new.order) c.self.inside.limit)
     c.fill_slot-number.result c.args.key
-taken g c small =
+key_moves_in g c small =
     take_number c.self.invariant.0 c.self.view_is g.met.K.Ord.total c.fill_slot-number.result c.in-Err.place c.args.key
     c.fill_slot-number.ensures.vacant small (rw (c.deref.ensures.value, c.deref-2.ensures.value) at c.in-Err.ensures)
     c.fill_slot-number.ensures.writes c.fill_slot-number.ensures.free c.fill_slot-number.ensures.count
@@ -56,9 +56,9 @@ taken g c small =
     c.list_number.ensures.len
 
 -- the answer is the number in more bytes
-widened : (g : given.Over) (old new : Holdings g.row.K.Denot) (key : g.row.K.Denot) (wide number : ℕ) → wide ≡ number
+holds_wider : (g : given.Over) (old new : Holdings g.row.K.Denot) (key : g.row.K.Denot) (wide number : ℕ) → wide ≡ number
     → HoldsOne g.K.Ord.cmp old new number key → HoldsOne g.K.Ord.cmp old new wide key
-widened g old new key wide number same holds = subst (λ (n : ℕ). HoldsOne g.K.Ord.cmp old new n key) (sym same) holds
+holds_wider g old new key wide number same holds = subst (λ (n : ℕ). HoldsOne g.K.Ord.cmp old new n key) (sym same) holds
 
 pub place_of-requires : goal.place_of-requires
 place_of-requires g c = rw (c.deref.ensures.value, c.deref-2.ensures.value) c.self.invariant.0.indexed
@@ -83,7 +83,7 @@ set_holds-requires g c = is_some_of _ c.slot_of_live.result.now (there g (goal.a
 
 pub invariant_of-self : goal.invariant_of-self
 invariant_of-self g c = (
-  (counted g (goal.at.invariant_of-self g c).After-set_holds).0,
+  (count_rises g (goal.at.invariant_of-self g c).After-set_holds).0,
   omega (arith, c.self.invariant, c.set_holds.ensures.capacity),
   c.self.invariant.2,
   c.self.invariant.3,
@@ -95,7 +95,7 @@ returns-in-Ok-clause-before g c = whole_now c.self.invariant.0 c.self.view_is g.
 
 pub returns-in-Ok-clause-whole : goal.returns-in-Ok-clause-whole
 returns-in-Ok-clause-whole g c =
-    whole_now (counted g (goal.at.returns-in-Ok-clause-whole g c).After-set_holds).0 refl g.met.K.Ord.total
+    whole_now (count_rises g (goal.at.returns-in-Ok-clause-whole g c).After-set_holds).0 refl g.met.K.Ord.total
 
 pub returns-in-Ok-clause-holds : goal.returns-in-Ok-clause-holds
 returns-in-Ok-clause-holds g c =
@@ -103,7 +103,7 @@ returns-in-Ok-clause-holds g c =
     let entry = stands g place.After-index-number in
     let shows = shown c.self.invariant.0 c.self.view_is in
     let mine = names_from_slot shows g.K.Ord.cmp c.index-number.result.now entry.0 c.args.key entry.1 entry.2 in
-    widened g c.args.self.now _ c.args.key _ _ c.from.ensures (inl (mine, (counted g place.After-set_holds).1))
+    holds_wider g c.args.self.now _ c.args.key _ _ c.from.ensures (inl (mine, (count_rises g place.After-set_holds).1))
 
 pub fill_slot-number-requires : goal.fill_slot-number-requires
 fill_slot-number-requires g c =
@@ -122,7 +122,7 @@ list_number-requires-clause-room g c =
 pub invariant_of-self-in-Err : goal.invariant_of-self-in-Err
 invariant_of-self-in-Err g c =
     let place = goal.at.invariant_of-self-in-Err g c in (
-      (taken g place.After-list_number (room g place.In-Err)).0,
+      (key_moves_in g place.After-list_number (room g place.In-Err)).0,
       omega (arith, c.self.invariant.1, c.fill_slot-number.ensures.slots_room),
       omega (arith, c.self.invariant.2, c.fill_slot-number.ensures.free_room),
       omega (arith, c.self.invariant.3, c.list_number.ensures.capacity),
@@ -134,7 +134,8 @@ returns-in-Err-clause-holds g c =
     let place = goal.at.returns-in-Err-clause-holds g c in
     let none = absent_at (shown c.self.invariant.0 c.self.view_is) g.met.K.Ord.total c.self.invariant.0.indexed c.args.key c.in-Err.place
     (missing g place.In-Err) in
-    widened g c.args.self.now _ c.args.key _ _ c.from-in-Err.ensures (inr (none, (taken g place.After-list_number (room g place.In-Err)).1))
+    holds_wider g c.args.self.now _ c.args.key _ _ c.from-in-Err.ensures
+    (inr (none, (key_moves_in g place.After-list_number (room g place.In-Err)).1))
 
 pub returns-in-Err-clause-before : goal.returns-in-Err-clause-before
 returns-in-Err-clause-before g c = whole_now c.self.invariant.0 c.self.view_is g.met.K.Ord.total
@@ -142,4 +143,4 @@ returns-in-Err-clause-before g c = whole_now c.self.invariant.0 c.self.view_is g
 pub returns-in-Err-clause-whole : goal.returns-in-Err-clause-whole
 returns-in-Err-clause-whole g c =
     let place = goal.at.returns-in-Err-clause-whole g c in
-    whole_now (taken g place.After-list_number (room g place.In-Err)).0 refl g.met.K.Ord.total
+    whole_now (key_moves_in g place.After-list_number (room g place.In-Err)).0 refl g.met.K.Ord.total

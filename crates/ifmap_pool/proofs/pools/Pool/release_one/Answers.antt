@@ -25,22 +25,22 @@ goes g c new either =
     ((held.key, held.holds), entry_from_slot (shown c.self.invariant.0 c.self.view_is) c.args.number held (there g c), either)
 
 -- the count of the number is one less, and nothing else changes
-counted : (g : given.Over) (c : After-set_holds g)
+count_falls : (g : given.Over) (c : After-set_holds g)
     → IsKept g.K.Ord.cmp c.set_holds.new.slots.items c.self.inside.free.items c.self.inside.order.items (vec_len c.self.inside.order)
     c.self.inside.limit
     × LetsGo c.args.self.now (holdings_of c.set_holds.new.slots.items (vec_len c.self.inside.order) c.self.inside.limit) c.args.number
-counted g c =
+count_falls g c =
     let at = rw c.deref.ensures.value at c.slot_of_live.ensures in
     let wrote = write_count c.self.invariant.0 c.self.view_is g.met.K.Ord.total c.args.number c.slot_of_live.result.now at (λ n. n - 1)
     (omega arith) (c.set_holds.ensures.items c.slot_of_live.result.now at) in
     (wrote.0, λ entry there more. wrote.1 entry there)
 
 -- the number is free
-freed : (g : given.Over) (c : After-empty_slot g)
+number_is_free : (g : given.Over) (c : After-empty_slot g)
     → IsKept g.K.Ord.cmp c.empty_slot.new.slots.items c.empty_slot.new.free.items c.unlist_number.new.order.items
     (vec_len c.unlist_number.new.order) c.self.inside.limit
     × Frees c.args.self.now (holdings_of c.empty_slot.new.slots.items (vec_len c.unlist_number.new.order) c.self.inside.limit) c.args.number
-freed g c =
+number_is_free g c =
     let listed = c.unlist_number.ensures.items in
     free_number c.self.invariant.0 c.self.view_is g.met.K.Ord.total c.args.number listed.0 listed.1 listed.2
     (vec_len c.unlist_number.new.order)
@@ -69,7 +69,7 @@ unlist_number-requires g c = record {
 
 pub invariant_of-self : goal.invariant_of-self
 invariant_of-self g c = (
-  (counted g (goal.at.invariant_of-self g c).After-set_holds).0,
+  (count_falls g (goal.at.invariant_of-self g c).After-set_holds).0,
   omega (arith, c.self.invariant, c.set_holds.ensures.capacity),
   c.self.invariant.2,
   c.self.invariant.3,
@@ -81,12 +81,12 @@ returns-then-holds-gt1-clause-before g c = whole_now c.self.invariant.0 c.self.v
 
 pub returns-then-holds-gt1-clause-whole : goal.returns-then-holds-gt1-clause-whole
 returns-then-holds-gt1-clause-whole g c =
-    whole_now (counted g (goal.at.returns-then-holds-gt1-clause-whole g c).After-set_holds).0 refl g.met.K.Ord.total
+    whole_now (count_falls g (goal.at.returns-then-holds-gt1-clause-whole g c).After-set_holds).0 refl g.met.K.Ord.total
 
 pub returns-then-holds-gt1-clause-goes : goal.returns-then-holds-gt1-clause-goes
 returns-then-holds-gt1-clause-goes g c =
     let place = goal.at.returns-then-holds-gt1-clause-goes g c in
-    goes g place.After-slot_of_live _ (inl (c.if-holds-gt1.true, (counted g place.After-set_holds).1))
+    goes g place.After-slot_of_live _ (inl (c.if-holds-gt1.true, (count_falls g place.After-set_holds).1))
 
 pub empty_slot-requires : goal.empty_slot-requires
 empty_slot-requires g c = record {
@@ -97,7 +97,7 @@ empty_slot-requires g c = record {
 
 pub invariant_of-self-2 : goal.invariant_of-self-2
 invariant_of-self-2 g c = (
-  (freed g (goal.at.invariant_of-self-2 g c).After-empty_slot).0,
+  (number_is_free g (goal.at.invariant_of-self-2 g c).After-empty_slot).0,
   omega (arith, c.self.invariant.1, c.empty_slot.ensures.slots_room),
   omega (arith, c.self.invariant.2, c.empty_slot.ensures.free_room),
   omega (arith, c.self.invariant.3, c.unlist_number.ensures.capacity),
@@ -108,10 +108,10 @@ pub returns-clause-before : goal.returns-clause-before
 returns-clause-before g c = whole_now c.self.invariant.0 c.self.view_is g.met.K.Ord.total
 
 pub returns-clause-whole : goal.returns-clause-whole
-returns-clause-whole g c = whole_now (freed g (goal.at.returns-clause-whole g c).After-empty_slot).0 refl g.met.K.Ord.total
+returns-clause-whole g c = whole_now (number_is_free g (goal.at.returns-clause-whole g c).After-empty_slot).0 refl g.met.K.Ord.total
 
 pub returns-clause-goes : goal.returns-clause-goes
 returns-clause-goes g c =
     let place = goal.at.returns-clause-goes g c in
     let some = c.self.invariant.0.indexed.held c.args.number c.slot_of_live.result.now (there g place.After-slot_of_live) in
-    goes g place.After-slot_of_live _ (inr (omega (arith, c.if-holds-gt1.false, some), (freed g place.After-empty_slot).1))
+    goes g place.After-slot_of_live _ (inr (omega (arith, c.if-holds-gt1.false, some), (number_is_free g place.After-empty_slot).1))
