@@ -10,6 +10,10 @@ pub some_there : {X : Type 0} (l : List X) → (length l == 0) ≡ false → l �
 some_there [] e n = absurd (grind (arith, nat_tests))
 some_there (x ∷ xs) e n = cc
 
+-- a list with a first member is not empty
+pub first_there : {X : Type 0} (x : X) (xs : List X) → x ∷ xs ≢ []
+first_there x xs e = cc
+
 -- there is a member
 abbrev pub is_not_empty : {X : Type 0} → List X → Bool
 is_not_empty [] = false

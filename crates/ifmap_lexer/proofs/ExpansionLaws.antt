@@ -3,6 +3,7 @@ use Rattle.std.proofs.Common.{◌≡◌, ◌≢◌, ℕ, true, false, List, [], 
 use Rattle.std.specs.Prelude.{Option, Some, None, encode_utf8}
 use Rattle.std.specs.List.{flat_map}
 use Rattle.std.proofs.lemmas.List.{append-nil}
+use Rattle.ifmap_lemmas.specs.Emptiness.{first_there}
 use Rattle.ifmap_lemmas.specs.Items.{To}
 use Rattle.ifmap_elem.specs.Chars.{AllAre, ampersand, semicolon}
 use Rattle.ifmap_elem.specs.Values.{ValuePart, Plain, Reference, TakesPart, EndsRun, SpellsOut, reference_value}
@@ -21,9 +22,6 @@ character_in : (place : TextPlace) (c : ℕ) → part_in place (Reference c) ≡
 character_in Content c = refl
 character_in Value c = refl
 
-no_cons : (b : ℕ) (bs : List ℕ) → b ∷ bs ≡ [] → ⊥
-no_cons b bs e = cc
-
 no_run : (run rest tail : List ℕ) → run ≢ [] → AllAre (is_but ampersand) run → ampersand ∷ tail ≡ run ++ rest → ⊥
 no_run [] rest tail some f e = some refl
 no_run (b ∷ bs) rest tail some f e =
@@ -40,7 +38,7 @@ module _ (place : TextPlace) where
   run_found [] after u f ends x = subst (SpellsIn after) (sym (ap (λ y. y ++ u) (empty_run place))) x
   run_found (b ∷ bs) after u f ends x = record {
     parts = Plain (b ∷ bs) ∷ x.parts;
-    taken = (after, (refl, no_cons b bs, f, ends), x.taken);
+    taken = (after, (refl, first_there b bs, f, ends), x.taken);
     text_is = ap (λ y. part_in place (Plain (b ∷ bs)) ++ y) x.text_is;
   }
 
@@ -59,9 +57,9 @@ module _ (place : TextPlace) where
   run_ahead (b ∷ bs) after f ends t x = first x.parts x.taken
     where
       first : (parts : List ValuePart) → To TakesPart ((b ∷ bs) ++ after) parts [] → (u : List ℕ) × SpellsIn after u
-      first [] l = absurd (no_cons b (bs ++ after) l)
+      first [] l = absurd (first_there b (bs ++ after) l)
       first (p ∷ ps) l =
-          let both = one_part ((b ∷ bs) ++ after) (Plain (b ∷ bs)) p after l.0 (refl, no_cons b bs, f, ends) l.1 in (
+          let both = one_part ((b ∷ bs) ++ after) (Plain (b ∷ bs)) p after l.0 (refl, first_there b bs, f, ends) l.1 in (
             flat_map (part_in place) ps,
             record
                 { parts = ps; taken = subst (λ (m : List ℕ). To TakesPart m ps []) (sym both.1) l.2; text_is = refl },
@@ -96,7 +94,7 @@ module _ (place : TextPlace) where
           )
 
       first : (parts : List ValuePart) → To TakesPart (ampersand ∷ (name ++ (semicolon ∷ beyond))) parts [] → Refers name beyond
-      first [] l = absurd (no_cons ampersand (name ++ (semicolon ∷ beyond)) l)
+      first [] l = absurd (first_there ampersand (name ++ (semicolon ∷ beyond)) l)
       first (p ∷ ps) l = refers p ps l.0 l.1 l.2
 
   no_reference : (after : List ℕ) → AllAre (is_but semicolon) after → (t : List ℕ) → SpellsIn (ampersand ∷ after) t → ⊥
@@ -119,7 +117,7 @@ module _ (place : TextPlace) where
           inside l.0 mid after f tail
 
       first : (parts : List ValuePart) → To TakesPart (ampersand ∷ after) parts [] → ⊥
-      first [] l = no_cons ampersand after l
+      first [] l = first_there ampersand after l
       first (p ∷ ps) l = refers p l.0 l.1
 
   -- how a reading goes on: what is left means what is missing
