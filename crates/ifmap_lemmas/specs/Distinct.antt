@@ -23,6 +23,10 @@ pub left_of_rest : {X : Type 0} (old rest : List X) (x : X) → old ≡ x ∷ re
     → Contains old y
 left_of_rest old rest x e y h = subst (λ (l : List _). Contains l y) (sym e) (Contains-append_right (x ∷ []) rest y h)
 
+-- what holds of each member holds of those that are left
+pub all_left : {X : Type 0} (P : X → Type 0) (old new : List X) → ((x : X) → Contains new x → Contains old x) → All P old → All P new
+all_left P old new left all = λ k d h. All-contains P old (get_or new k d) all (left (get_or new k d) (Contains-get_or new k d h))
+
 -- a distinct list with one number more
 pub distinct_cons : (x : ℕ) (xs : List ℕ) → All (λ y. x ≢ y) xs → IsDistinct nat_eq xs → IsDistinct nat_eq (x ∷ xs)
 unfolding IsDistinct

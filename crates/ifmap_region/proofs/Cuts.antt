@@ -10,6 +10,7 @@ use Rattle.std.proofs.lemmas.List.Elements.{Contains-append_left, Contains-appen
 use Rattle.std.proofs.lemmas.List.Sums.{sum_by-cons, sum_by_push}
 use Rattle.std.specs.List.{IsDistinct}
 use Rattle.ifmap_lemmas.specs.Distinct.{contains_one, no_member, distinct_cons, distinct_push, distinct_head, distinct_tail, sum_within}
+use Rattle.ifmap_lemmas.specs.Options.{is_some_of, some_is}
 use Rattle.ifmap_region.specs.declared.flips.Flip.{Flip}
 use Rattle.ifmap_region.specs.Bounds.{IsWithin}
 use Rattle.ifmap_region.specs.Flips.{WithRemoved}
@@ -24,23 +25,16 @@ use Rattle.ifmap_region.specs.Losing.{Awaits, HasNearerMark, AreGone, IsLookedAt
 use Rattle.ifmap_region.proofs.Lost.{losing_passed, losing_entered, losing_held, losing_gone, moved_here}
 use Rattle.ifmap_region.proofs.Falling.{queue_out, queue_in, queue_first, now_in, now_new, now_out, next_in, next_new, next_out, seed_first, seed_out, seed_in}
 
-pub some_row : (o : Option (Option ℕ)) → IsSome o → (r : Option ℕ) × (o ≡ Some r)
-some_row None h = absurd (true≢false (sym h))
-some_row (Some r) h = (r, refl)
-
-pub is_some_row : (o : Option (Option ℕ)) (r : Option ℕ) → o ≡ Some r → IsSome o
-is_some_row o r e = ap is_some e
-
 module _ (count : ℕ → ℕ) (rows rows' : List (ℕ × Option ℕ)) (gone : List ℕ) (v : ℕ)
     (unrowed : row_of rows v ≡ None) (others : (q : ℕ) → q ≢ v → row_of rows' q ≡ row_of rows q) where
   pub still_rowed : (r : Option ℕ) → row_of rows' v ≡ Some r → (x : ℕ) → IsSome (row_of rows x) → IsSome (row_of rows' x)
   still_rowed r here x h = elim (cases_eq x v) [
-    | inl at ↦ is_some_row (row_of rows' x) r (ap (row_of rows') at ∙ here)
+    | inl at ↦ is_some_of (row_of rows' x) r (ap (row_of rows') at ∙ here)
     | inr apart ↦ ap is_some (others x apart) ∙ h
   ]
 
   pub rowed_differs : (x : ℕ) → IsSome (row_of rows x) → v ≢ x
-  rowed_differs x h at = let s = some_row (row_of rows x) h in none-some s.0 (sym unrowed ∙ ap (row_of rows) at ∙ s.1)
+  rowed_differs x h at = let s = some_is (row_of rows x) h in none-some s.0 (sym unrowed ∙ ap (row_of rows) at ∙ s.1)
 
   pub looked_more : (gone' : List ℕ) (r : Option ℕ) (before steps after : ℕ) → row_of rows' v ≡ Some r
       → after + sum_by count gone ≤ steps + count v + sum_by count gone'
@@ -49,7 +43,7 @@ module _ (count : ℕ → ℕ) (rows rows' : List (ℕ × Option ℕ)) (gone : L
     numbers = v ∷ l.numbers;
     distinct = distinct_cons v l.numbers (All-weaker (λ (x : ℕ). IsSome (row_of rows x)) (λ (x : ℕ). v ≢ x) rowed_differs l.numbers l.among)
         l.distinct;
-    among = All-cons (λ (x : ℕ). IsSome (row_of rows' x)) v l.numbers (is_some_row (row_of rows' v) r here)
+    among = All-cons (λ (x : ℕ). IsSome (row_of rows' x)) v l.numbers (is_some_of (row_of rows' v) r here)
         (All-weaker (λ (x : ℕ). IsSome (row_of rows x)) (λ (x : ℕ). IsSome (row_of rows' x)) (still_rowed r here) l.numbers l.among);
     all = λ x h. elim (cases_eq x v) [
       | inl at ↦ (0, omega arith, sym at)
@@ -80,11 +74,11 @@ module _ (count : ℕ → ℕ) (rows rows' : List (ℕ × Option ℕ)) (gone : L
     numbers = l.numbers;
     distinct = l.distinct;
     among = All-weaker (λ (x : ℕ). IsSome (row_of rows x)) (λ (x : ℕ). IsSome (row_of rows' x)) (λ x h. elim (cases_eq x v) [
-      | inl at ↦ is_some_row (row_of rows' x) None (ap (row_of rows') at ∙ here)
+      | inl at ↦ is_some_of (row_of rows' x) None (ap (row_of rows') at ∙ here)
       | inr apart ↦ ap is_some (others x apart) ∙ h
     ]) l.numbers l.among;
     all = λ x h. l.all x (elim (cases_eq x v) [
-      | inl at ↦ is_some_row (row_of rows x) (Some k) (ap (row_of rows) at ∙ row)
+      | inl at ↦ is_some_of (row_of rows x) (Some k) (ap (row_of rows) at ∙ row)
       | inr apart ↦ ap is_some (sym (others x apart)) ∙ h
     ]);
     bound = omega (arith, le, l.bound);
@@ -110,12 +104,12 @@ module _ (links : ℕ → ℕ → Type 0) (terminal : ℕ → Bool) (count : ℕ
   module _ (rows : List (ℕ × Option ℕ)) (gone : List ℕ) (seeds : List (ℕ × ℕ)) (level before : ℕ) where
     gone_within : (after : ℕ) → AreGone rows gone → (c : IsLookedAt count rows gone before after) → sum_by count gone ≤ sum_by count
         c.numbers
-    gone_within after g c = sum_within count gone c.numbers g.distinct (λ x h. c.all x (is_some_row (row_of rows x) None (g.only x h)))
+    gone_within after g c = sum_within count gone c.numbers g.distinct (λ x h. c.all x (is_some_of (row_of rows x) None (g.only x h)))
 
     pub looked_near : (now next : List ℕ) (after : ℕ)
         → IsCutting links terminal count flips start top first rows gone seeds level now next before after
         → (x : ℕ) → IsSome (row_of rows x) → NearOneWay flips false (WithRemoved links flips) links terminal start top x
-    looked_near now next after c x h = let s = some_row (row_of rows x) h in (c.losing.rowed x s.0 s.1).3
+    looked_near now next after c x h = let s = some_is (row_of rows x) h in (c.losing.rowed x s.0 s.1).3
 
     pub spent_now : (now next : List ℕ) (after : ℕ)
         → IsCutting links terminal count flips start top first rows gone seeds level now next before after
@@ -138,8 +132,8 @@ module _ (links : ℕ → ℕ → Type 0) (terminal : ℕ → Bool) (count : ℕ
         (same_Some None (Some level)
         (sym (c.are_gone.only _ (Contains-get_or gone i e lt)) ∙ ap (row_of rows) (sym at) ∙ row))) c.are_gone.distinct)
         (λ x h. elim (Contains-append_cases (v ∷ []) gone x h) [
-          | inl one ↦ c.charged.all x (is_some_row (row_of rows x) (Some level) (ap (row_of rows) (sym (contains_one v x one)) ∙ row))
-          | inr later ↦ c.charged.all x (is_some_row (row_of rows x) None (c.are_gone.only x later))
+          | inl one ↦ c.charged.all x (is_some_of (row_of rows x) (Some level) (ap (row_of rows) (sym (contains_one v x one)) ∙ row))
+          | inr later ↦ c.charged.all x (is_some_of (row_of rows x) None (c.are_gone.only x later))
         ]) in
         record {
           numbers = c.charged.numbers;
@@ -186,7 +180,7 @@ module _ (count : ℕ → ℕ) (link : ℕ → ℕ → Option ℕ) (terminal : �
       seed = c.losing.entered level w (seed_first level w seeds rest is)
 
       passed_by : IsSome (row_of rows w) → Cutting rows gone rest now [] spent
-      passed_by h = let s = some_row (row_of rows w) h in record {
+      passed_by h = let s = some_is (row_of rows w) h in record {
         losing = losing_passed (WithRemoved (Linked count link) flips) (Linked count link) terminal start top first b.depths
             (λ u x l. inl l) Near
             rows (λ k x. Contains seeds (k, x)) (λ k x. Contains rest (k, x)) (queue_at level now []) level w s.0 s.1

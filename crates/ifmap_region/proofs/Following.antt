@@ -6,7 +6,7 @@ use Rattle.std.proofs.lemmas.Bool.{cases_eq, cases_lt}
 use Rattle.ifmap_region.specs.Marks.{row_of, mark_over}
 use Rattle.ifmap_region.specs.Losing.{Awaits}
 use Rattle.ifmap_region.proofs.Lost.{over_unrowed, over_rowed}
-use Rattle.ifmap_region.proofs.Cuts.{is_some_row}
+use Rattle.ifmap_lemmas.specs.Options.{is_some_of}
 
 module _ (level v : ℕ) (rows rows' : List (ℕ × Option ℕ)) (queue queue' : List ℕ) (put : Awaits level v rows rows' queue queue') where
   -- what has a row keeps one, and the number has one
@@ -14,7 +14,7 @@ module _ (level v : ℕ) (rows rows' : List (ℕ × Option ℕ)) (queue queue' :
   row_kept x h = elim put [
     | inl p ↦ ap (λ (r : List (ℕ × Option ℕ)). is_some (row_of r x)) p.1 ∙ h
     | inr p ↦ elim (cases_eq x v) [
-      | inl at ↦ is_some_row (row_of rows' x) (Some level) (ap (row_of rows') at ∙ p.0.here)
+      | inl at ↦ is_some_of (row_of rows' x) (Some level) (ap (row_of rows') at ∙ p.0.here)
       | inr apart ↦ ap is_some (p.0.others x apart) ∙ h
     ]
   ]
@@ -22,7 +22,7 @@ module _ (level v : ℕ) (rows rows' : List (ℕ × Option ℕ)) (queue queue' :
   row_now : IsSome (row_of rows' v)
   row_now = elim put [
     | inl p ↦ ap (λ (r : List (ℕ × Option ℕ)). is_some (row_of r v)) p.1 ∙ p.0
-    | inr p ↦ is_some_row (row_of rows' v) (Some level) p.0.here
+    | inr p ↦ is_some_of (row_of rows' v) (Some level) p.0.here
   ]
 
   module _ (first : ℕ → Option ℕ) where

@@ -19,7 +19,7 @@ use Rattle.ifmap_region.specs.Losing.{Reseeds, IsBeforeCut, IsCutting}
 use Rattle.ifmap_region.specs.Walks.{Walk, goes_on, AreDepths, Expands}
 use Rattle.ifmap_region.proofs.Depths.{walk_has_mark, marked_start, closed_from, sound_from, walk_along, no_walk}
 use Rattle.ifmap_region.proofs.Lost.{ready_left, over_unrowed, over_rowed}
-use Rattle.ifmap_region.proofs.Cuts.{some_row}
+use Rattle.ifmap_lemmas.specs.Options.{some_is}
 
 -- seeds of one number more that is gone
 module _ (links : ℕ → ℕ → Type 0) (terminal : ℕ → Bool) (top : ℕ) (mark : ℕ → Option ℕ) (gone : List ℕ) (v : ℕ) (seeds after : List (ℕ ×
@@ -112,7 +112,7 @@ module _ (links : ℕ → ℕ → Type 0) (terminal : ℕ → Bool) (count : ℕ
         numbers = c.charged.numbers;
         distinct = c.charged.distinct;
         among = All-weaker (λ (x : ℕ). IsSome (row_of rows x)) (NearOneWay flips false (WithRemoved links flips) links terminal start top)
-            (λ x h. let r = some_row (row_of rows x) h in (c.losing.rowed x r.0 r.1).3) c.charged.numbers c.charged.among;
+            (λ x h. let r = some_is (row_of rows x) h in (c.losing.rowed x r.0 r.1).3) c.charged.numbers c.charged.among;
         bound = omega (arith, le, s.bound, c.charged.bound, found, lost);
       }
 
@@ -125,7 +125,7 @@ module _ (links : ℕ → ℕ → Type 0) (terminal : ℕ → Bool) (count : ℕ
         numbers = c.charged.numbers;
         distinct = c.charged.distinct;
         among = All-weaker (λ (x : ℕ). IsSome (row_of rows x)) (NearOneWay flips false (WithRemoved links flips) links terminal start top)
-            (λ x h. let r = some_row (row_of rows x) h in (c.losing.rowed x r.0 r.1).3) c.charged.numbers c.charged.among;
+            (λ x h. let r = some_is (row_of rows x) h in (c.losing.rowed x r.0 r.1).3) c.charged.numbers c.charged.among;
         bound = omega (arith, le, c.charged.bound, lost);
       }
 

@@ -1,7 +1,6 @@
 -- Lists that rise by level.
-use Rattle.std.proofs.Common.{◌≡◌, ◌≢◌, ℕ, ◌+◌, ◌<◌, ◌≤◌, List, length, get_or, drop, All, Contains, sym, ap, ◌∙◌, arith, length-drop, get_or-drop}
+use Rattle.std.proofs.Common.{◌≡◌, ◌≢◌, ℕ, ◌+◌, ◌<◌, ◌≤◌, List, length, get_or, drop, All, sym, ap, ◌∙◌, arith, length-drop, get_or-drop}
 use Rattle.std.proofs.lemmas.List.{get_or_default}
-use Rattle.std.proofs.lemmas.List.Elements.{Contains-get_or, All-contains}
 use Rattle.std.specs.List.Sorted.{IsNonDecreasingBy}
 
 -- what is left from a place on is no lower than what stands there
@@ -25,10 +24,6 @@ all_above xs i up lt e is level apart all k d h =
     arith) ∙ sym (is ∙ get_or_default xs i e d lt)) in
     let this : e.0 ≤ (get_or (drop i xs) k d).0 = least k d h in
     omega (arith, at_first, same, this, apart)
-
--- what holds of each entry holds of those that are left
-pub all_left : (P : ℕ × ℕ → Type 0) (old new : List (ℕ × ℕ)) → ((s : ℕ × ℕ) → Contains new s → Contains old s) → All P old → All P new
-all_left P old new left all = λ k d h. All-contains P old (get_or new k d) all (left (get_or new k d) (Contains-get_or new k d h))
 
 -- a level below none of what is left is not above the first
 pub below_first : (xs : List (ℕ × ℕ)) (i : ℕ) → i < length xs → (e : ℕ × ℕ) → e ≡ get_or xs i e

@@ -1,7 +1,6 @@
 use Rattle.std.proofs.Common.{ℕ, ◌≤◌}
-use Rattle.ifmap_lemmas.specs.Distinct.{left_of_rest}
+use Rattle.ifmap_lemmas.specs.Distinct.{all_left, left_of_rest}
 use Rattle.ifmap_region.proofs.Cuts.{cutting_seed}
-use Rattle.ifmap_region.proofs.Waits.{all_left}
 use Rattle.ifmap_region.proofs.lose.queue_seeds.Goals as goal
 
 pub loop-number-preserved : goal.loop-number-preserved

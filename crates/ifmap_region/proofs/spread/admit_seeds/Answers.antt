@@ -1,7 +1,6 @@
 use Rattle.std.proofs.Common.{ℕ, ◌≤◌}
-use Rattle.ifmap_lemmas.specs.Distinct.{left_of_rest}
+use Rattle.ifmap_lemmas.specs.Distinct.{all_left, left_of_rest}
 use Rattle.ifmap_region.specs.Marks.{mark_of}
-use Rattle.ifmap_region.proofs.Waits.{all_left}
 use Rattle.ifmap_region.proofs.Falling.{seed_admitted, seed_walk, charged_more, charged_part}
 use Rattle.ifmap_region.proofs.spread.admit_seeds.Goals as goal
 
