@@ -1,7 +1,6 @@
 -- The steps of the loop that reads a filter, over texts in UTF-8.
 use Rattle.std.proofs.Common.{◌≡◌, ◌≢◌, ℕ, ◌-◌, ◌<◌, ◌≤◌, List, [], length, ap, sym, ◌∙◌, subst, arith, inl, inr, Some}
-use Rattle.std.specs.Prelude.{◌==◌, true, false, IsUtf8, chars, encode_utf8_all, Result, Ok, Err}
-use Rattle.std.proofs.lemmas.Bool.Decides.{Decides-eqb}
+use Rattle.std.specs.Prelude.{IsUtf8, chars, encode_utf8_all, Result, Ok, Err}
 use Rattle.std.proofs.lemmas.Str.{encodes-chars}
 use Rattle.ifmap_prefixes.specs.ifmap_reader.declared.scoping.Scope.{Scope}
 use Rattle.ifmap_filter.specs.declared.errors.FilterError.{FilterError}
@@ -79,9 +78,3 @@ module _ (text : List ℕ) (scope : Scope) (u : IsUtf8 text) where
     ends_parse none at is (Err (NotAFilter found)) (same, no_filter) =
         let there : at ≡ token_offset text r.cs = (let p = place in omega (arith, p, none, is)) in
         subst (StopsAt text scope) (sym (same ∙ there)) (stops_at_end text scope w r.cs r.reached (end none) no_filter)
-
-pub none_left : (rest : List ℕ) → (length rest == 0) ≡ true → length rest ≡ 0
-none_left rest e = (Decides-eqb (length rest) 0).0 e
-
-pub some_left : (rest : List ℕ) → (length rest == 0) ≡ false → length rest ≢ 0
-some_left rest e none = let wrong : false ≡ true = sym e ∙ (Decides-eqb (length rest) 0).1 none in cc

@@ -1,9 +1,11 @@
-use Rattle.std.proofs.Common.{◌∙◌, ◌-◌, refl, subst, sym, length}
+use Rattle.std.proofs.Common.{◌≡◌, ◌==◌, ◌∙◌, ◌-◌, refl, subst, sym, length}
+use Rattle.std.proofs.lemmas.Bool.Decides.{Decides-eqb}
 use Rattle.std.proofs.lemmas.Result.{err_from_is_err_and}
+use Rattle.ifmap_lemmas.specs.Branches.{fails_where_false}
 use Rattle.ifmap_filter.specs.Progress.{filter_state}
 use Rattle.ifmap_filter.specs.Reaching.{IsRefused, ReachesWhite}
 use Rattle.ifmap_filter.specs.Texts.{IsParsed}
-use Rattle.ifmap_filter.proofs.ParseLaws.{begin, ends_parse, go_on, none_left, refusal_is_parsed, some_left, step_shortens}
+use Rattle.ifmap_filter.proofs.ParseLaws.{begin, ends_parse, go_on, refusal_is_parsed, step_shortens}
 use Rattle.ifmap_filter.proofs.parsing.read_filter.Goals as goal
 
 pub loop-rest-init : goal.loop-rest-init
@@ -30,7 +32,7 @@ loop-rest-smaller c =
 pub returns : goal.returns
 returns c =
     ends_parse c.args.text.now c.args.scope.now c.utf8.text (filter_state c.loop-rest.standing) c.loop-rest.rest.now c.loop-rest.invariant.0
-    c.loop-rest.invariant.1 (none_left c.loop-rest.rest.now (sym c.is_empty.ensures ∙ c.loop-rest-test.false)) (length c.args.text.now) refl
+    c.loop-rest.invariant.1 ((Decides-eqb (length c.loop-rest.rest.now) 0).0 (sym c.is_empty.ensures ∙ c.loop-rest-test.false)) (length c.args.text.now) refl
     c.whole_filter.result c.whole_filter.ensures
 
 pub returns-in_err-left : goal.returns-in_err-left
@@ -41,7 +43,8 @@ returns-in_err-left c =
     c.in_err-left.ensures.refused in
     subst (IsParsed c.args.text.now c.args.scope.now) (sym p.1)
     (refusal_is_parsed c.args.text.now c.args.scope.now c.utf8.text (filter_state c.loop-rest.standing) c.loop-rest.rest.now
-    c.loop-rest.invariant.0 c.loop-rest.invariant.1 (some_left c.loop-rest.rest.now (sym c.is_empty.ensures ∙ c.loop-rest-test.true))
+    c.loop-rest.invariant.0 c.loop-rest.invariant.1 (fails_where_false (length c.loop-rest.rest.now == 0) (length c.loop-rest.rest.now ≡ 0)
+    (Decides-eqb (length c.loop-rest.rest.now) 0) (sym c.is_empty.ensures ∙ c.loop-rest-test.true))
     (length c.args.text.now - length c.loop-rest.rest.now) refl p.0
     (subst (IsRefused c.args.scope.now (filter_state c.loop-rest.standing) c.loop-rest.rest.now
     (length c.args.text.now - length c.loop-rest.rest.now)) (sym p.2) stuck))
