@@ -24,6 +24,7 @@ use Rattle.ifmap_elem.specs.declared.elements.Element.{Element}
 use Rattle.ifmap_elem.specs.declared.elements.Name.{Name}
 use Rattle.ifmap_elem.specs.laws.ArrangedLaws.{arranged_is, arranged_text}
 use Rattle.ifmap_elem.specs.laws.FitLaws.{elements_of_child, elements_text, fit_whole, out_text, no_namespace}
+use Rattle.ifmap_lemmas.specs.Emptiness.{first_there}
 use Rattle.ifmap_lemmas.specs.Members.{all_of_test}
 use Rattle.ifmap_lemmas.specs.Texts.{ascii_encoded, is_ascii}
 use Rattle.ifmap_replies.specs.Results.{text_children}
@@ -92,9 +93,6 @@ three_differ a b c ab ac bc = ((same_local a b ab, (same_local a c ac, tt)), two
 
 -- ---- 2. elements
 
-some_text : (b : ℕ) (bs : List ℕ) → (b ∷ bs) ≢ []
-some_text b bs e = cc
-
 -- of a text
 pub good_text : (name : Name) → IsFitName name → (text : List ℕ) → IsCharacters text
     → IsGood 1 (record { name = name; attributes = []; children = text_children text })
@@ -104,7 +102,7 @@ good_text name fits (b ∷ bs) h =
     let e : Element = record { name = name; attributes = []; children = the.Text text ∷ [] } in
     let parts : map out-Child (the.Text text ∷ []) ≡ Child-F.Text text ∷ [] = λ i. out_text text i ∷ [] in
     let children : AreFitChildren (Child-F.Text text ∷ []) =
-    record { texts = ((some_text b bs, h), tt); apart = tt; beside = λ any. absurd (no_element any) } in
+    record { texts = ((first_there b bs, h), tt); apart = tt; beside = λ any. absurd (no_element any) } in
     record {
       fit = fit_whole e (record { name = fits; attributes = tt; names_differ = tt; children = subst AreFitChildren (sym parts) children })
           (subst (AllByRecursion IsFitAlone) (sym (nothing_inside text)) tt);
