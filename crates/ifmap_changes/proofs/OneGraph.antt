@@ -9,6 +9,7 @@ use Rattle.std.specs.declared.cmp.Ordering.{Ordering}
 use Rattle.std.specs.declared.cmp.Ordering.TheVariants.{Less, Equal, Greater}
 use Rattle.ifmap_ident.specs.declared.items.Item.{Item}
 use Rattle.ifmap_ident.specs.Items.{IsCanonItem, item_order, same_item, items_tie}
+use Rattle.ifmap_lemmas.specs.Emptiness.{first_there}
 use Rattle.ifmap_lemmas.specs.Filters.{all_weaker, filter_none}
 use Rattle.ifmap_lemmas.specs.Orderings.{first_of_less, greater_turned}
 use Rattle.ifmap_meta.specs.declared.stored.Stored.{Stored}
@@ -40,19 +41,16 @@ none_below x b ys l up =
 abbrev Alike : List Attachment → List Attachment → Type 0
 Alike xs ys = (x : Item) → stored_on x xs ≡ stored_on x ys
 
-some_none : {X : Type 0} (x : X) (xs : List X) → x ∷ xs ≡ [] → (Y : Type 0) → Y
-some_none x xs e Y = cc
-
 -- both begin with one item
 firsts : (a b : Attachment) (xs ys : List Attachment) → AllByRecursion (λ y. attachment_order a y ≡ Less) xs
     → AllByRecursion (λ y. attachment_order b y ≡ Less) ys → Alike (a ∷ xs) (b ∷ ys) → item_order a.item b.item ≡ Equal
 firsts a b xs ys up vp same = by (item_order a.item b.item) refl
   where
     by : (o : Ordering) → item_order a.item b.item ≡ o → item_order a.item b.item ≡ Equal
-    by Less is = some_none a.stored (stored_on a.item xs) (sym (first_stored a xs) ∙ same a.item ∙ none_below a.item b ys is vp) _
+    by Less is = absurd (first_there a.stored (stored_on a.item xs) (sym (first_stored a xs) ∙ same a.item ∙ none_below a.item b ys is vp))
     by Equal is = is
-    by Greater is = some_none b.stored (stored_on b.item ys) (sym (first_stored b ys) ∙ sym (same b.item)
-        ∙ none_below b.item a xs (greater_turned items_total a.item b.item is) up) _
+    by Greater is = absurd (first_there b.stored (stored_on b.item ys) (sym (first_stored b ys) ∙ sym (same b.item)
+        ∙ none_below b.item a xs (greater_turned items_total a.item b.item is) up))
 
 first_same : (a b : Attachment) (xs ys : List Attachment) → a.item ≡ b.item → Alike (a ∷ xs) (b ∷ ys) → a ≡ b
 first_same a b xs ys item same =
@@ -76,8 +74,8 @@ module _ (tells : BytesTellIdentifiers) where
       → IsStrictlySortedBy attachment_order xs → IsStrictlySortedBy attachment_order ys → Alike xs ys → xs ≡ ys
   unfolding IsStrictlySortedBy
   alike_same [] [] p q up vp same = refl
-  alike_same [] (b ∷ ys) p q up vp same = some_none b.stored (stored_on b.item ys) (sym (first_stored b ys) ∙ sym (same b.item)) _
-  alike_same (a ∷ xs) [] p q up vp same = some_none a.stored (stored_on a.item xs) (sym (first_stored a xs) ∙ same a.item) _
+  alike_same [] (b ∷ ys) p q up vp same = absurd (first_there b.stored (stored_on b.item ys) (sym (first_stored b ys) ∙ sym (same b.item)))
+  alike_same (a ∷ xs) [] p q up vp same = absurd (first_there a.stored (stored_on a.item xs) (sym (first_stored a xs) ∙ same a.item))
   alike_same (a ∷ xs) (b ∷ ys) p q up vp same =
       let equal = firsts a b xs ys up.0 vp.0 same in
       let item : a.item ≡ b.item = same_item_is tells a.item b.item p.0.identifiers q.0.identifiers
