@@ -15,7 +15,7 @@ use Rattle.ifmap_delta.specs.Flipped.{AreFlipsOf}
 use Rattle.ifmap_delta.specs.Shown.{goes_on}
 use Rattle.ifmap_delta.specs.Sights.{AreMarks, Links, ViewSeen, is_terminal_in}
 use Rattle.ifmap_delta.specs.Touched.{looked_along, turns}
-use Rattle.ifmap_delta.proofs.Settling.{same_not}
+use Rattle.ifmap_lemmas.specs.Branches.{same_not_apart}
 use Rattle.ifmap_delta.proofs.Walking.{moved_near, old_depths, repaired_within, turned_within}
 use Rattle.ifmap_ident.specs.SameLaws.{BytesTellIdentifiers}
 
@@ -53,7 +53,7 @@ module _ (tells : BytesTellIdentifiers) (old new : ViewSeen) (s : Search) (was :
     turned_near : (v : ℕ) → turns new s v (mark v) (mark' v) ≡ true → IsNear old new s start v
     turned_near v t =
         moved_near tells old new s was is changes change start mark mark' before.depths now.depths v
-        (λ e. same_not (goes_on s (new.id_at v) (mark v)) (goes_on s (new.id_at v) (mark' v)) (ap (goes_on s (new.id_at v)) e) t)
+        (λ e. same_not_apart (goes_on s (new.id_at v) (mark v)) (goes_on s (new.id_at v) (mark' v)) (ap (goes_on s (new.id_at v)) e) t)
 
     -- the steps of a repair, and of looking along the links of what turned
     pub change_steps : (from mid to : ℕ) (numbers : List ℕ) → IsDistinct nat_eq numbers

@@ -15,6 +15,7 @@ use Rattle.ifmap_ident.specs.declared.items.Item.{Item}
 use Rattle.ifmap_ident.specs.declared.items.Item.TheVariants.{One, Pair}
 use Rattle.ifmap_ident.specs.Canon.{IsIdentifier}
 use Rattle.ifmap_ident.specs.Items.{IsCanonItem, pair_of}
+use Rattle.ifmap_lemmas.specs.Branches.{same_not_apart}
 use Rattle.ifmap_lemmas.specs.Having.{Has, filter_has, has_either, has_filter, has_from, has_joined, has_left, has_map, has_mapped, has_right, joined_has, map_has, mapped_has, all_has}
 use Rattle.ifmap_lemmas.specs.Options.{some_is}
 use Rattle.ifmap_plans.specs.declared.plans.ItemChange.{ItemChange}
@@ -49,12 +50,6 @@ same_or true true = inl refl
 same_or true false = inr refl
 same_or false true = inr refl
 same_or false false = inl refl
-
-pub same_not : (p q : Bool) → p ≡ q → not (beq p q) ≡ true → ⊥
-same_not true true e f = let q : false ≡ true = f in cc
-same_not true false e f = let q : true ≡ false = e in cc
-same_not false true e f = let q : false ≡ true = e in cc
-same_not false false e f = let q : false ≡ true = f in cc
 
 or_false : (p q : Bool) → ((p || q) ≡ true → ⊥) → (p ≡ false) × (q ≡ false)
 or_false true q f = absurd (f refl)
@@ -119,7 +114,7 @@ module _ (tells : BytesTellIdentifiers) (reach : LevelsReach) (expand : LevelsEx
     reached_changes : (v : ℕ) (a : Identifier) → new.id_at v ≡ Some a → not (beq (is_some (mark v)) (is_some (mark' v))) ≡ true
         → Has gathered_items (One a)
     reached_changes v a i t =
-        by_moved v (One a) (λ e. same_not (is_some (mark v)) (is_some (mark' v)) (ap is_some e) t)
+        by_moved v (One a) (λ e. same_not_apart (is_some (mark v)) (is_some (mark' v)) (ap is_some e) t)
         (has_left (cond (not (beq (is_some (mark v)) (is_some (mark' v)))) (item_alone (new.id_at v)) [])
         (cond (turns new s v (mark v) (mark' v)) (linked_items new s v) []) (One a)
         (subst (λ b. Has (cond b (item_alone (new.id_at v)) []) (One a)) (sym t) (subst (λ o. Has (item_alone o) (One a)) (sym i) (inl
@@ -141,7 +136,7 @@ module _ (tells : BytesTellIdentifiers) (reach : LevelsReach) (expand : LevelsEx
         ∙ ap (λ y. pair_at (new.id_at v) (new.id_at y)) there.2
         ∙ ap (λ o. pair_at o (new.id_at w)) i ∙ ap (λ o. pair_at (Some a) o) j ∙ e
         in by_moved v x
-        (λ q. same_not (goes_on s (new.id_at v) (mark v)) (goes_on s (new.id_at v) (mark' v)) (ap (goes_on s (new.id_at v)) q) t)
+        (λ q. same_not_apart (goes_on s (new.id_at v) (mark v)) (goes_on s (new.id_at v) (mark' v)) (ap (goes_on s (new.id_at v)) q) t)
         (has_right (cond (not (beq (is_some (mark v)) (is_some (mark' v)))) (item_alone (new.id_at v)) [])
         (cond (turns new s v (mark v) (mark' v)) (linked_items new s v) []) x
         (subst (λ b. Has (cond b (linked_items new s v) []) x) (sym t)
@@ -166,7 +161,7 @@ module _ (tells : BytesTellIdentifiers) (reach : LevelsReach) (expand : LevelsEx
               in differs t r.0 (change.numbers r.0 a r.1)
           | inr e ↦ elim (cases_Bool (is_reached new.rows s a)) [
             | inl f ↦ let r = reached_marked reach expand new s is start' top' mark' now keeps' a i f in differs t r.0 r.1
-            | inr f ↦ same_not (is_reached old.rows s a) (is_reached new.rows s a) (e ∙ sym f) t
+            | inr f ↦ same_not_apart (is_reached old.rows s a) (is_reached new.rows s a) (e ∙ sym f) t
           ]
         ]
 

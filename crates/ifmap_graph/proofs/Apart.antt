@@ -5,12 +5,12 @@ use Rattle.std.specs.List.{AllByRecursion, IsDistinct, filter, cons_option}
 use Rattle.std.proofs.lemmas.Map.Keys.{IsDistinct-cons, IsDistinct-head, IsDistinct-tail}
 use Rattle.ifmap_view.specs.declared.views.LinkSeen.{LinkSeen}
 use Rattle.ifmap_graph.specs.Linked.{AreListed, link_places, changed_links, coming_links, far_of, seen_at}
+use Rattle.ifmap_lemmas.specs.Branches.{one_without_other}
 use Rattle.ifmap_lemmas.specs.Having.{from_has, has_all}
 use Rattle.ifmap_lemmas.specs.Numbers.{equal_numbers}
 use Rattle.ifmap_lemmas.specs.Filters.{all_filter}
 use Rattle.ifmap_lemmas.specs.Members.{map_of_all}
 use Rattle.ifmap_lemmas.specs.Rising.{to_distinct}
-use Rattle.ifmap_graph.proofs.Links.{both_true}
 
 -- the place is not among those of the links
 abbrev Out : ℕ → List LinkSeen → Type 0
@@ -62,7 +62,7 @@ module _ (joins : ℕ → Option (ℕ × ℕ)) (before after : ℕ → Bool) (v 
   comers_empty [] = tt
   comers_empty (at ∷ ats) = from_place (λ n. before n ≡ false) at (after at && not (before at)) (far_of (joins at) v)
       (coming_links joins before after ats v)
-      (λ e. (both_true (after at) (before at) e).1) (comers_empty ats)
+      (λ e. (one_without_other (after at) (before at) e).1) (comers_empty ats)
 
   comers_out : (k : ℕ) (touched : List ℕ) → AllByRecursion (λ y. nat_eq k y ≡ false) touched → AllByRecursion (λ l. nat_eq k l.at ≡ false)
       (coming_links joins before after touched v)

@@ -6,6 +6,7 @@
 --    less (`own_stays`), and all else stays (`inside_goes`).
 -- 5. An identifier is held once more for itself (`inside_held`).
 use Rattle.std.proofs.Common.{◌≡◌, ◌≢◌, ℕ, ◌+◌, ◌-◌, ◌≤◌, Option, Some, None, IsSome, List, [], ◌∷◌, length, option_map, refl, ap, ◌∙◌, sym, subst, arith}
+use Rattle.std.proofs.Math.Nat.{add_assoc}
 use Rattle.std.specs.BTreeMap.{is_at, insert_entry}
 use Rattle.std.specs.FinMap.{get}
 use Rattle.std.specs.List.{AllByRecursion}
@@ -28,7 +29,7 @@ use Rattle.ifmap_graph.proofs.Alike.{alike_equal}
 use Rattle.ifmap_graph.proofs.Departing.{numbered_stay}
 use Rattle.ifmap_graph.proofs.Empty.{side_comes, side_goes, side_same}
 use Rattle.ifmap_graph.proofs.Following.{looked_up}
-use Rattle.ifmap_graph.proofs.KeyHolds.{add_two, numbered_kept}
+use Rattle.ifmap_graph.proofs.KeyHolds.{numbered_kept}
 use Rattle.ifmap_graph.proofs.Leaving.{comes, goes, named_tied, slots_kept, stays_placed, still_used}
 use Rattle.ifmap_graph.proofs.Finding.{all_left}
 use Rattle.ifmap_graph.proofs.Shelving.{Entries}
@@ -116,10 +117,6 @@ was_live old new before v (Some x) e s =
     let n = before v x.0 (x, e, alike_equal x.0 x.0 refl)
     in subst (λ (o : Option (Identifier × ℕ)). IsSome o) (sym n.1) refl
 
--- what is taken from own holds
-pub own_less : (n own k : ℕ) → k ≤ own → (n + own) - k ≡ n + (own - k)
-own_less n own k l = omega (arith, l)
-
 -- what is named and held is less by what goes
 counts_less : (n left own k by : ℕ) → by + left ≡ n → k ≡ by → (n + own) - k ≡ left + own
 counts_less n left own k by e f = omega (arith, e, f)
@@ -200,7 +197,7 @@ inside_held old new look es links id is kept pool keys room held = record {
       let h = is.held a
       in (
         h.0 + once identifier_order id a,
-        subst (λ (n : ℕ). IsHeld identifier_order new a n) (add_two (uses_in es a) h.0 (once identifier_order id a))
+        subst (λ (n : ℕ). IsHeld identifier_order new a n) (add_assoc (uses_in es a) h.0 (once identifier_order id a))
             (held a (uses_in es a + h.0) h.1),
       );
   table = λ v s. let k = pool.below v s in omega (arith, k, room);

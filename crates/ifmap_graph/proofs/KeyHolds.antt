@@ -25,12 +25,6 @@ use Rattle.ifmap_graph.specs.declared.shelves.Shelf.{Shelf}
 use Rattle.ifmap_graph.specs.Named.{AreEnds, AreIdentifiers, AreNumbered, HasEnds, uses_of}
 use Rattle.ifmap_graph.proofs.Alike.{alike_equal, equal_alike}
 
-pub add_two : (n x y : ℕ) → (n + x) + y ≡ n + (x + y)
-add_two n x y = omega arith
-
-pub sub_two : (n x y : ℕ) → (n - x) - y ≡ n - (x + y)
-sub_two n x y = omega arith
-
 -- two identifiers in order have two numbers
 pub numbers_differ : (names : Holdings Identifier) (v w : ℕ) (a b : Identifier) → identifier_order a b ≡ Less
     → Names identifier_order names v a

@@ -5,6 +5,7 @@ use Rattle.std.proofs.lemmas.Bool.Decides.{nat_tests}
 use Rattle.std.proofs.lemmas.List.Elements.{Contains-append_left, Contains-append_right, Contains-append_cases}
 use Rattle.std.proofs.lemmas.Option.{same_Some, none-some}
 use Rattle.std.specs.List.{Contains, filter}
+use Rattle.ifmap_lemmas.specs.Branches.{one_without_other}
 use Rattle.ifmap_lemmas.specs.Having.{filter_has, from_has, has_filter, has_from, has_mapped, mapped_has}
 use Rattle.ifmap_view.specs.declared.views.LinkSeen.{LinkSeen}
 use Rattle.ifmap_graph.specs.Linked.{JoinsNumbers, far_of, seen_at, AreListed, coming_links, changed_links}
@@ -44,11 +45,6 @@ picked_is_seen true at (Some w) seen e = let q : record { other = w; at = at } �
       (λ s. s.at) q,
 )
 
-pub both_true : (a b : Bool) → (a && not b) ≡ true → (a ≡ true) × (b ≡ false)
-both_true true true e = let r : false ≡ true = e in cc
-both_true true false e = (refl, refl)
-both_true false b e = let r : false ≡ true = e in cc
-
 -- a place that joins the same in both
 pub joins_alike : (joins other : ℕ → Option (ℕ × ℕ)) (at v w : ℕ) → other at ≡ joins at → JoinsNumbers joins at v w
     → JoinsNumbers other at v w
@@ -82,7 +78,7 @@ module _ (joins : ℕ → Option (ℕ × ℕ)) where
               in (
                 subst (λ at. JoinsNumbers joins at v seen.other) p.2 ends,
                 ap after (sym p.2) ∙
-                    (both_true (after h.0) (before h.0) p.0).0,
+                    (one_without_other (after h.0) (before h.0) p.0).0,
               )
         ]
 

@@ -1,5 +1,6 @@
 -- What others than items hold: one hold of theirs more, and one less.
 use Rattle.std.proofs.Common.{◌≡◌, ◌≢◌, ℕ, ◌+◌, ◌-◌, ◌<◌, ◌≤◌, cond, unwrap_or, Option, Some, None, IsSome, List, [], ◌∷◌, option_map, refl, ap, ◌∙◌, sym, subst, inl, inr, arith}
+use Rattle.std.proofs.Math.Nat.{add-sub_assoc}
 use Rattle.std.proofs.lemmas.Bool.{cases_Bool}
 use Rattle.std.proofs.lemmas.Option.{same_Some}
 use Rattle.std.specs.FinMap.{get}
@@ -17,7 +18,7 @@ use Rattle.ifmap_graph.specs.Inside.{IsInside, shown_shelves}
 use Rattle.ifmap_graph.specs.Named.{AreIdentifiers, uses_of, uses_in}
 use Rattle.ifmap_graph.specs.Sides.{Sides}
 use Rattle.ifmap_graph.proofs.Alike.{Alike, alike_equal, equal_alike, order_alike}
-use Rattle.ifmap_graph.proofs.Changed.{all_same, own_less, was_live}
+use Rattle.ifmap_graph.proofs.Changed.{all_same, was_live}
 use Rattle.ifmap_graph.proofs.Departing.{numbered_stay}
 use Rattle.ifmap_graph.proofs.KeyHolds.{identifiers_stay, named_before}
 use Rattle.ifmap_graph.proofs.Insides.{key_is, named_shown, names_by}
@@ -113,9 +114,7 @@ module _ (old new : Holdings Identifier) (look : ℕ → Option Shelf) (es : Ent
       → IsHeld identifier_order new other (uses_in (shown_shelves look es) other + (n - once identifier_order k other))
   own_of other n h =
       subst (λ (m : ℕ). IsHeld identifier_order new other m)
-      (own_less (uses_in (shown_shelves look es) other) n (once identifier_order k other)
-      (goes_of old is.pool (shown_shelves look es) k other mine n own
-      some h))
+      (add-sub_assoc (goes_of old is.pool (shown_shelves look es) k other mine n own some h) (uses_in (shown_shelves look es) other))
       (held k other (uses_in (shown_shelves look es) other + n) (names_by old v k k key refl) h)
 
   pub own_released : (a other : Identifier) (n : ℕ) → key_at old v ≡ Some a → IsHeld identifier_order old other

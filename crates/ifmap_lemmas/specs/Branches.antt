@@ -1,5 +1,5 @@
 -- Tests: what their answers exclude, what several of them say together, and what holds of a choice by one.
-use Rattle.std.proofs.Common.{◌≡◌, ℕ, Bool, true, false, ◌&&◌, ◌||◌, ◌==◌, refl, sym, ◌∙◌}
+use Rattle.std.proofs.Common.{◌≡◌, ℕ, Bool, true, false, not, ◌&&◌, ◌||◌, ◌==◌, refl, sym, ◌∙◌}
 use Rattle.std.specs.Prelude.{◌↔◌, IsTrue, if◌then◌else◌}
 use Rattle.std.specs.Bool.{OnTrue, beq}
 use Rattle.std.proofs.lemmas.Bool.{eq-eqb}
@@ -45,6 +45,19 @@ all_three true true true e = (refl, refl, refl)
 all_three true true false e = cc
 all_three true false c e = cc
 all_three false b c e = cc
+
+-- of two, one holds and the other does not
+pub one_without_other : (a b : Bool) → (a && not b) ≡ true → (a ≡ true) × (b ≡ false)
+one_without_other true true e = let r : false ≡ true = e in cc
+one_without_other true false e = (refl, refl)
+one_without_other false b e = let r : false ≡ true = e in cc
+
+-- tests with one answer are not told apart
+pub same_not_apart : (p q : Bool) → p ≡ q → not (beq p q) ≡ true → ⊥
+same_not_apart true true e f = let q : false ≡ true = f in cc
+same_not_apart true false e f = let q : true ≡ false = e in cc
+same_not_apart false true e f = let q : false ≡ true = e in cc
+same_not_apart false false e f = let q : false ≡ true = f in cc
 
 -- tests that agree, and another that holds
 pub agree_and : (x y others : Bool) → (beq x y && others) ≡ true → (x ≡ y) × (others ≡ true)

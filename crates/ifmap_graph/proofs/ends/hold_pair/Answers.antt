@@ -1,7 +1,8 @@
 use Rattle.std.proofs.Common.{ℕ, inl, arith, subst}
+use Rattle.std.proofs.Math.Nat.{add_assoc}
 use Rattle.ifmap_ident.specs.Identifiers.{identifier_order}
 use Rattle.ifmap_pool.specs.Holdings.{IsHeld, once}
-use Rattle.ifmap_graph.proofs.KeyHolds.{add_two, still_identifiers}
+use Rattle.ifmap_graph.proofs.KeyHolds.{still_identifiers}
 use Rattle.ifmap_graph.proofs.ends.hold_pair.Goals as goal
 
 pub hold-one-requires-clause-room : goal.hold-one-requires-clause-room
@@ -22,7 +23,7 @@ returns-clause-ends c = (c.hold-two.ensures.kept _ _ c.hold-one.ensures.named, c
 pub returns-clause-held : goal.returns-clause-held
 returns-clause-held c = λ other count h.
     subst (λ (n : ℕ). IsHeld identifier_order c.hold-two.new.self other n)
-    (add_two count (once identifier_order c.args.a other) (once identifier_order c.args.b other))
+    (add_assoc count (once identifier_order c.args.a other) (once identifier_order c.args.b other))
     (c.hold-two.ensures.held other _ (c.hold-one.ensures.held other count h))
 
 pub returns-clause-kept : goal.returns-clause-kept

@@ -1,4 +1,5 @@
 use Rattle.std.proofs.Common.{ℕ, ◌+◌, ◌^◌, ◌<◌, length, refl, sym, subst, arith}
+use Rattle.std.proofs.Math.Nat.{add_assoc}
 use Rattle.slab.specs.Slab.{get}
 use Rattle.ifmap_ident.specs.Canon.{IsIdentifier}
 use Rattle.ifmap_ident.specs.Identifiers.{identifier_order}
@@ -8,7 +9,7 @@ use Rattle.ifmap_graph.specs.Named.{AreIdentifiers, uses_in}
 use Rattle.ifmap_graph.specs.Bringing.{graph_fields}
 use Rattle.ifmap_graph.proofs.Grown.{few_holds}
 use Rattle.ifmap_graph.proofs.Changed.{held_alike, inside_held, keys_alike, names_alike, roomier}
-use Rattle.ifmap_graph.proofs.KeyHolds.{add_two, still_identifiers}
+use Rattle.ifmap_graph.proofs.KeyHolds.{still_identifiers}
 use Rattle.ifmap_graph.proofs.Kept.{KeepsShelves, shelves_kept}
 use Rattle.ifmap_graph.proofs.Settled.{few_from, inside_of}
 use Rattle.ifmap_graph.proofs.Own.{held_again, holds_alike, key_kept, key_told}
@@ -98,7 +99,7 @@ returns-clause-own c =
     rw (← c.self.view_is)
     (λ a own h.
     let named = uses_in (shown_shelves (get c.self.inside.shelves.slots) c.self.inside.shelves.places.entries) a
-    in subst (λ (n : ℕ). IsHeld identifier_order c.hold.new.self a n) (add_two named own (once identifier_order c.args.id.now a))
+    in subst (λ (n : ℕ). IsHeld identifier_order c.hold.new.self a n) (add_assoc named own (once identifier_order c.args.id.now a))
     (subst (λ k. IsHeld identifier_order c.hold.new.self a ((named + own) + once identifier_order k a)) c.in_ok-key.ensures
     (c.hold.ensures.held a (named + own) (held_alike c.self.inside.names c.reserve.new.self c.reserve.ensures.live a (named + own) h))))
 
