@@ -5,7 +5,6 @@ pub mod Framing
 pub mod HeaderLines
 pub mod Pieces
 pub mod Progress
-pub mod SameErrors
 pub mod ScriptHistories
 pub mod Scripts
 pub mod SomeScript

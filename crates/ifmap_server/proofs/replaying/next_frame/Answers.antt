@@ -1,7 +1,7 @@
 -- A line and a header lead to the frame, or to the reason why none begins.
 use Rattle.std.proofs.Common.{arith, inl, inr}
 use Rattle.std.proofs.lemmas.Result.{err_from_is_err_and}
-use Rattle.ifmap_server.proofs.SameErrors.{err_again}
+use Rattle.ifmap_lemmas.specs.Results.{same_error}
 use Rattle.ifmap_server.proofs.Framing.{cut_fault, header_fault, line_fault, long_fault, short_awaits, whole}
 use Rattle.ifmap_input.specs.InputLaws.{takes_more}
 use Rattle.ifmap_server.proofs.replaying.next_frame.Goals as goal
@@ -10,12 +10,12 @@ use Rattle.ifmap_server.proofs.replaying.next_frame.Goals.{then-end-offset-via-t
 pub returns-in_err-line-clause-fault : goal.returns-in_err-line-clause-fault
 returns-in_err-line-clause-fault g c =
     let p = err_from_is_err_and c.from_residual.result c.from_residual.ensures.1 in
-    rw (p.1, p.2) (λ e. let f = c.in_err-line.ensures.fault (err_again _ _ e) in (f.0, line_fault _ _ _ f.1))
+    rw (p.1, p.2) (λ e. let f = c.in_err-line.ensures.fault (same_error _ _ e) in (f.0, line_fault _ _ _ f.1))
 
 pub returns-in_err-line-clause-read : goal.returns-in_err-line-clause-read
 returns-in_err-line-clause-read g c =
     let p = err_from_is_err_and c.from_residual.result c.from_residual.ensures.1 in
-    rw (p.1, p.2) (λ e. let f = c.in_err-line.ensures.read (err_again _ _ e) in (f.0, inl f.1))
+    rw (p.1, p.2) (λ e. let f = c.in_err-line.ensures.read (same_error _ _ e) in (f.0, inl f.1))
 
 pub returns-in_default-2-clause-fault : goal.returns-in_default-2-clause-fault
 returns-in_default-2-clause-fault g c =
@@ -29,7 +29,7 @@ pub returns-in_err-await_bytes-clause-read : goal.returns-in_err-await_bytes-cla
 returns-in_err-await_bytes-clause-read g c =
     let p = err_from_is_err_and c.from_residual-in_err-await_bytes.result c.from_residual-in_err-await_bytes.ensures.1 in
     rw (p.1, p.2) (λ e.
-    let f = c.in_err-await_bytes.ensures.read (err_again _ _ e) in
+    let f = c.in_err-await_bytes.ensures.read (same_error _ _ e) in
     let header = rw c.in-Some-2.is at c.in_ok-header.ensures.found in (
       takes_more _ _ _ _ _ _ c.in_ok-line.ensures.taken f.0,
       (let offset = c.requires in
