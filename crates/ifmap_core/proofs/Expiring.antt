@@ -133,10 +133,6 @@ none_dropped state =
     all_standing [] = refl
     all_standing (x ∷ xs) = ap (λ t. x ∷ t) (all_standing xs)
 
-pub rises_not : IsStrictlySortedBy nat_cmp []
-unfolding IsStrictlySortedBy
-rises_not = tt
-
 -- no telling, where there are no entries
 pub no_entry : (tellings : Tellings) → tellings.entries ≡ [] → (n : ℕ) → get nat_cmp tellings n ≡ None
 no_entry tellings e n =

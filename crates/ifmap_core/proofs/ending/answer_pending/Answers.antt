@@ -1,6 +1,8 @@
 use Rattle.std.proofs.Common.{sym, ◌∙◌, ap, subst}
+use Rattle.std.specs.Ordering.{nat_cmp}
+use Rattle.ifmap_lemmas.specs.Rising.{nothing_rises}
 use Rattle.ifmap_core.proofs.Exits.{gives_up}
-use Rattle.ifmap_core.proofs.Expiring.{none_dropped, rises_not}
+use Rattle.ifmap_core.proofs.Expiring.{none_dropped}
 use Rattle.ifmap_core.proofs.Spending.{ask_none}
 use Rattle.ifmap_core.proofs.Turned.{back_itself}
 use Rattle.ifmap_core.proofs.ending.answer_pending.Goals as goal
@@ -10,7 +12,7 @@ use Rattle.ifmap_subscribes.specs.ifmap_machine.State.{State}
 use Rattle.ifmap_subscribes.specs.ifmap_machine.Step.{step_ask}
 
 pub pending_without-requires-clause-rising : goal.pending_without-requires-clause-rising
-pending_without-requires-clause-rising g c = rises_not
+pending_without-requires-clause-rising g c = nothing_rises nat_cmp
 
 pub returns-in_err-pending-clause-answers : goal.returns-in_err-pending-clause-answers
 returns-in_err-pending-clause-answers g c =
