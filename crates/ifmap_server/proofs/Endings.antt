@@ -3,32 +3,32 @@ use Rattle.std.proofs.Common.{◌≡◌, ◌≢◌, ℕ, List, [], ◌++◌, Opt
 use Rattle.std.proofs.KnownBytes.{Keeps-refl}
 use Rattle.std.specs.Io.KnownBytes.{Appends, Keeps}
 use Rattle.ifmap_io.specs.Causes.{Rose}
-use Rattle.ifmap_input.specs.Inputs.{TakesFromSource}
 use Rattle.ifmap_server.specs.declared.errors.ReplayError.{ReplayError}
 use Rattle.ifmap_server.specs.declared.errors.ReplayError.TheVariants.{FrameFault, NoMemory, ReadFault, WriteFault}
 use Rattle.ifmap_server.specs.Awaited.{IsAwaited}
 use Rattle.ifmap_server.specs.Output.{AppendsPrefix, fault_line}
 use Rattle.ifmap_server.specs.Replayed.{ReplayPromises}
 use Rattle.ifmap_server.specs.Ends.{IsLaterMoment, SourceAndSink, source_and_sink}
+use Rattle.ifmap_server.specs.Taking.{TakesBytes}
 use Rattle.ifmap_server.specs.Turns.{BeginsNone, Replaying, IsReplayTurn}
 use Rattle.ifmap_server.proofs.Pieces.{keeps_prefix}
 use Rattle.ifmap_server.proofs.Progress.{Progress, fault_part, fault_told, part, unread, unwritten}
 use Rattle.ifmap_io.specs.Rises.{rose_since}
 
 -- no frame was taken: the turn ends as the taking did
-pub untaken : (e : ReplayError) (left_old left_new held : Option (List ℕ)) (reads_old reads_new writes : ℕ) (old new : Replaying)
-    → (e ≡ FrameFault → TakesFromSource left_old left_new old.pending new.pending
-    × IfSome left_new (λ rest. (new.pending ++ rest ≢ []) × BeginsNone old.offset (new.pending ++ rest)))
-    → (e ≡ ReadFault → TakesFromSource left_old left_new old.pending new.pending × IsAwaited old.offset new.pending)
-    → (e ≡ ReadFault → Rose reads_old reads_new)
-    → e ≢ WriteFault → new.offset ≡ old.offset
-    → IsReplayTurn (Err e) (source_and_sink left_old reads_old held writes) (source_and_sink left_new reads_new held writes) old new
-untaken FrameFault left_old left_new held reads_old reads_new writes old new fault read rose not same =
-    (record { taken = new.pending; takes = (fault refl).0; fault = (fault refl).1; kept = Keeps-refl held }, same)
-untaken ReadFault left_old left_new held reads_old reads_new writes old new fault read rose not same =
-    record { taken = new.pending; takes = (read refl).0; awaited = (read refl).1; kept = Keeps-refl held; cause = rose refl }
-untaken WriteFault left_old left_new held reads_old reads_new writes old new fault read rose not same = absurd (not refl)
-untaken NoMemory left_old left_new held reads_old reads_new writes old new fault read rose not same = Keeps-refl held
+pub untaken : {X T : Type 0} (e : ReplayError) (left : X → Option (List ℕ)) (faults : X → ℕ) (source_old source_new : X)
+    (held : Option (List ℕ)) (writes : ℕ) (old new : Replaying)
+    → TakesBytes {T = T} left faults (source_old, old.pending) (source_new, new.pending) (Err e)
+    → (e ≡ FrameFault → IfSome (left source_new) (λ rest. (new.pending ++ rest ≢ []) × BeginsNone old.offset (new.pending ++ rest)))
+    → (e ≡ ReadFault → IsAwaited old.offset new.pending) → e ≢ WriteFault → new.offset ≡ old.offset
+    → IsReplayTurn (Err e) (source_and_sink (left source_old) (faults source_old) held writes)
+    (source_and_sink (left source_new) (faults source_new) held writes) old new
+untaken FrameFault left faults source_old source_new held writes old new takes fault read not same =
+    (record { taken = new.pending; takes = takes.taken; fault = fault refl; kept = Keeps-refl held }, same)
+untaken ReadFault left faults source_old source_new held writes old new takes fault read not same =
+    record { taken = new.pending; takes = takes.taken; awaited = read refl; kept = Keeps-refl held; cause = takes.rose }
+untaken WriteFault left faults source_old source_new held writes old new takes fault read not same = absurd (not refl)
+untaken NoMemory left faults source_old source_new held writes old new takes fault read not same = Keeps-refl held
 
 module _ (before mid after : SourceAndSink) (now new : Replaying) (p : Progress before mid now) where
   -- any error but that of a frame ends the replay

@@ -8,3 +8,4 @@ pub mod Progress
 pub mod ScriptHistories
 pub mod Scripts
 pub mod SomeScript
+pub mod Taking

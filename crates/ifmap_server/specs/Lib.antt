@@ -4,6 +4,7 @@ pub mod Script
 pub mod Output
 pub mod Histories
 pub mod Awaited
+pub mod Taking
 pub mod Ends
 pub mod Statuses
 pub mod Replayed

@@ -2,13 +2,13 @@
 ghost use Rattle.std.specs.Prelude.{◌≡◌, ◌≢◌, ◌≤◌, [], ◌++◌, length, IfErr, IfOk, IfSome, None, OnOk, Some};
 ghost use Rattle.std.specs.Io.KnownBytes.{Appends, IsAtEnd, Keeps};
 ghost use Rattle.ifmap_io.specs.Causes.{Rose};
-ghost use Rattle.ifmap_input.specs.Inputs.{TakesFromSource};
 ghost use Rattle.ifmap_input.specs.Scripts.{longest_script};
 ghost use Rattle.ifmap_server.specs.declared.headers.Header.{Header};
 ghost use Rattle.ifmap_server.specs.Awaited.{IsAwaited};
 ghost use Rattle.ifmap_requests.specs.Fit.{IsFitRequest};
 ghost use Rattle.ifmap_server.specs.Output.{AppendsPrefix, fault_line, step_request};
 ghost use Rattle.ifmap_server.specs.Replayed.{ReplayPromises};
+ghost use Rattle.ifmap_server.specs.Taking.{TakesBytes};
 ghost use Rattle.ifmap_server.specs.Ends.{IsLaterMoment, source_and_sink};
 ghost use Rattle.ifmap_server.specs.Turns.{BeginsNone, IsAnswered, IsFramed, IsReplayTurn, asking_of, replay_beginning};
 
@@ -45,22 +45,15 @@ pub fn next_frame<S: Source>(
     source: &mut S,
 ) -> Result<Option<TakenFrame>, ReplayError>
     requires { offset ≤ longest_script }
-    ensures taken { OnOk result (TakesFromSource (S.left source.old) (S.left source.new) input.old
-        input.new) }
+    ensures takes { TakesBytes S.left S.faults (source.old, input.old) (source.new, input.new)
+        result }
     ensures frame { IfOk result (λ found. IfSome found
         (λ framed. IsFramed offset input.new framed)) }
     ensures end { result ≡ Ok None → IsAtEnd (S.left source.new) × (input.new ≡ []) }
-    ensures fault { result ≡ Err ReplayError.FrameFault →
-        TakesFromSource (S.left source.old) (S.left source.new) input.old input.new
-        × IfSome (S.left source.new) (λ rest.
+    ensures fault { result ≡ Err ReplayError.FrameFault → IfSome (S.left source.new) (λ rest.
         (input.new ++ rest ≢ []) × BeginsNone offset (input.new ++ rest)) }
-    ensures read { result ≡ Err ReplayError.ReadFault →
-        TakesFromSource (S.left source.old) (S.left source.new) input.old input.new
-        × IsAwaited offset input.new }
-    ensures rose { result ≡ Err ReplayError.ReadFault
-        → Rose (S.faults source.old) (S.faults source.new) }
+    ensures read { result ≡ Err ReplayError.ReadFault → IsAwaited offset input.new }
     ensures cause { result ≢ Err ReplayError.WriteFault }
-    ensures later { S.faults source.old ≤ S.faults source.new }
 {
     let Some(line) = await_line(input, source)? else {
         return Ok(None);

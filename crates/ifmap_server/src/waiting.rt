@@ -1,10 +1,9 @@
 //! Waiting for the bytes of a frame, as they come from a source.
-ghost use Rattle.std.specs.Prelude.{◌≡◌, ◌≢◌, ◌<◌, ◌≤◌, ◌⊎◌, [], ◌++◌, length, Err, IfErr, IfNone, IfOk, IfSome, None, OnOk, Ok};
+ghost use Rattle.std.specs.Prelude.{◌≡◌, ◌≢◌, ◌<◌, ◌≤◌, ◌⊎◌, [], ◌++◌, length, Err, IfErr, IfNone, IfOk, IfSome, None, Ok};
 ghost use Rattle.std.specs.Bool.{OnFalse, OnTrue};
 ghost use Rattle.std.specs.Io.KnownBytes.{IsAtEnd};
-ghost use Rattle.ifmap_io.specs.Causes.{Rose};
-ghost use Rattle.ifmap_input.specs.Inputs.{TakesFromSource};
 ghost use Rattle.ifmap_server.specs.Awaited.{AwaitsHeaderLine, HasNoLine, IsHeaderLineEnd};
+ghost use Rattle.ifmap_server.specs.Taking.{TakesBytes};
 
 use crate::errors::ReplayError;
 use crate::headers::LONGEST_HEADER;
@@ -18,21 +17,15 @@ pub fn await_line<S: Source>(
     input: &mut Input,
     source: &mut S,
 ) -> Result<Option<usize>, ReplayError>
-    ensures taken { OnOk result
-        (TakesFromSource (S.left source.old) (S.left source.new) input.old input.new) }
+    ensures takes { TakesBytes S.left S.faults (source.old, input.old) (source.new, input.new)
+        result }
     ensures line { IfOk result
         (λ found. IfSome found (λ place. IsHeaderLineEnd input.new place)) }
     ensures end { result ≡ Ok None → IsAtEnd (S.left source.new) × (input.new ≡ []) }
     ensures fault { result ≡ Err ReplayError.FrameFault →
-        TakesFromSource (S.left source.old) (S.left source.new) input.old input.new
-        × IfSome (S.left source.new) (λ rest. (input.new ≢ []) × HasNoLine (input.new ++ rest)) }
-    ensures read { result ≡ Err ReplayError.ReadFault →
-        TakesFromSource (S.left source.old) (S.left source.new) input.old input.new ×
-        AwaitsHeaderLine input.new }
-    ensures rose { result ≡ Err ReplayError.ReadFault
-        → Rose (S.faults source.old) (S.faults source.new) }
+        IfSome (S.left source.new) (λ rest. (input.new ≢ []) × HasNoLine (input.new ++ rest)) }
+    ensures read { result ≡ Err ReplayError.ReadFault → AwaitsHeaderLine input.new }
     ensures cause { result ≢ Err ReplayError.WriteFault }
-    ensures later { S.faults source.old ≤ S.faults source.new }
 {
     'line: loop {
         if let Some(place) = line_end(input.pending_bytes()) {
@@ -58,19 +51,14 @@ pub fn await_bytes<S: Source>(
     source: &mut S,
     count: usize,
 ) -> Result<bool, ReplayError>
-    ensures taken { OnOk result
-        (TakesFromSource (S.left source.old) (S.left source.new) input.old input.new) }
+    ensures takes { TakesBytes S.left S.faults (source.old, input.old) (source.new, input.new)
+        result }
     ensures enough { IfOk result (λ enough. OnTrue enough (count ≤ length input.new)) }
     ensures end { IfOk result (λ enough.
         OnFalse enough (IsAtEnd (S.left source.new) × (length input.new < count))) }
-    ensures read { result ≡ Err ReplayError.ReadFault →
-        TakesFromSource (S.left source.old) (S.left source.new) input.old input.new
-        × (length input.new < count) }
-    ensures rose { result ≡ Err ReplayError.ReadFault
-        → Rose (S.faults source.old) (S.faults source.new) }
+    ensures read { result ≡ Err ReplayError.ReadFault → length input.new < count }
     ensures cause { IfErr result (λ e. (e ≡ ReplayError.ReadFault)
         ⊎ (e ≡ ReplayError.NoMemory)) }
-    ensures later { S.faults source.old ≤ S.faults source.new }
 {
     'bytes: while input.pending_bytes().len() < count {
         if !take_more(input, source)? {
@@ -82,19 +70,14 @@ pub fn await_bytes<S: Source>(
 
 // Takes more by one read, and tells why not as a replay does; false at the source's end.
 fn take_more<S: Source>(input: &mut Input, source: &mut S) -> Result<bool, ReplayError>
-    ensures taken { OnOk result
-        (TakesFromSource (S.left source.old) (S.left source.new) input.old input.new) }
+    ensures takes { TakesBytes S.left S.faults (source.old, input.old) (source.new, input.new)
+        result }
     ensures more { IfOk result (λ more. OnTrue more (length input.old < length input.new)) }
     ensures end { IfOk result (λ more.
         OnFalse more (IsAtEnd (S.left source.new) × (input.new ≡ input.old))) }
-    ensures fault { result ≡ Err ReplayError.ReadFault
-        → Rose (S.faults source.old) (S.faults source.new) }
-    ensures kept { result ≡ Err ReplayError.ReadFault →
-        TakesFromSource (S.left source.old) (S.left source.new) input.old input.new
-        × (input.new ≡ input.old) }
+    ensures kept { result ≡ Err ReplayError.ReadFault → input.new ≡ input.old }
     ensures cause { IfErr result (λ e. (e ≡ ReplayError.ReadFault)
         ⊎ (e ≡ ReplayError.NoMemory)) }
-    ensures later { S.faults source.old ≤ S.faults source.new }
 {
     match input.fill(source) {
         Ok(more) => Ok(more),

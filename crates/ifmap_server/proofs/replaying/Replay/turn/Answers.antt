@@ -14,13 +14,12 @@ returns-in_err-framed-clause-turn g c =
     let p = err_from_is_err_and c.from_residual.result c.from_residual.ensures.1 in
     let replay = c.self.inside in
     rw (p.1, p.2, ← c.self.view_is)
-    (untaken c.in_err-framed.field-0.0 (g.S.Source.left c.args.source.now) (g.S.Source.left c.next_frame.new.source)
-    (g.K.Sink.held c.args.sink.now) (g.S.Source.faults c.args.source.now) (g.S.Source.faults c.next_frame.new.source)
-    (g.K.Sink.faults c.args.sink.now)
+    (untaken c.in_err-framed.field-0.0 g.S.Source.left g.S.Source.faults c.args.source.now c.next_frame.new.source
+    (g.K.Sink.held c.args.sink.now) (g.K.Sink.faults c.args.sink.now)
     (record { state = replay.core; pending = replay.input; offset = replay.offset })
     (record { state = replay.core; pending = c.next_frame.new.input; offset = replay.offset })
-    (λ e. c.in_err-framed.ensures.fault (ap Err e)) (λ e. c.in_err-framed.ensures.read (ap Err e))
-    (λ e. c.in_err-framed.ensures.rose (ap Err e)) (λ e. c.in_err-framed.ensures.cause (ap Err e)) refl)
+    c.in_err-framed.ensures.takes (λ e. c.in_err-framed.ensures.fault (ap Err e))
+    (λ e. c.in_err-framed.ensures.read (ap Err e)) (λ e. c.in_err-framed.ensures.cause (ap Err e)) refl)
 
 pub returns-in_err-send-clause-turn : goal.returns-in_err-send-clause-turn
 returns-in_err-send-clause-turn g c =
@@ -34,7 +33,7 @@ returns-in_err-send-clause-turn g c =
       frame = frame_within framed pending answered.meaning;
       taken = pending;
       rest = drop framed.end pending;
-      takes = c.in_ok-framed.ensures.taken;
+      takes = c.in_ok-framed.ensures.takes.taken;
       begins = is.begins answered.meaning;
       means = answered.means;
       wrote = subst (AppendsPrefix (g.K.Sink.held c.args.sink.now) (g.K.Sink.held c.send.new.sink)) answered.wrote
@@ -52,7 +51,7 @@ returns-clause-turn g c =
     rw (← c.self.view_is) (record {
       frame = frame;
       taken = pending;
-      takes = c.in_ok-framed.ensures.taken;
+      takes = c.in_ok-framed.ensures.takes.taken;
       begins = subst (BeginsFrame c.self.inside.offset pending frame) (sym c.advance.ensures) (is.begins answered.meaning);
       means = answered.means;
       state = answered.state;
