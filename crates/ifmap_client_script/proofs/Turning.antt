@@ -58,10 +58,10 @@ module _ (caller : Caller) (left left_new : Option (List ℕ)) (faults faults_ne
     memory (inr (inl u)) = inr (inl (record { line = next.line; takes = takes; unanswered = u }))
     memory (inr (inr c)) = inr (inr (record { line = next.line; takes = takes; cut = c }))
 
-    pub turned : (r : Result ScriptTurn ScriptFailure) → DoesNext caller next before after (at_pending old pending) new r
+    pub turn_does_next : (r : Result ScriptTurn ScriptFailure) → DoesNext caller next before after (at_pending old pending) new r
         → IsScriptTurn caller from_ends to_ends old new r
     unfolding takes
-    turned (Ok turn.Carried) d = record {
+    turn_does_next (Ok turn.Carried) d = record {
       line = next.line;
       takes = takes;
       carried = d.0;
@@ -69,8 +69,8 @@ module _ (caller : Caller) (left left_new : Option (List ℕ)) (faults faults_ne
       offset = d.1.offset ∙ ap (λ (n : ℕ). old.offset + n + 1) (sym size);
       line_is = d.1.line;
     }
-    turned (Ok turn.Ended) d = absurd d
-    turned (Err failure.BadLine) d = record {
+    turn_does_next (Ok turn.Ended) d = absurd d
+    turn_does_next (Err failure.BadLine) d = record {
       pending = pending;
       fetched = read.0;
       fault = bad_at old.offset next.place pending.bytes (known_of old.client) is_next.end (λ line means can.
@@ -78,12 +78,12 @@ module _ (caller : Caller) (left left_new : Option (List ℕ)) (faults faults_ne
           (one (take next.place pending.bytes) line next.line means is_next.means) can));
       kept = d.0.1;
     }
-    turned (Err failure.ReadFault) d = absurd d.0
-    turned (Err failure.WriteFault) d = (record { line = next.line; takes = takes; cut = d.0.0 }, d.0.1)
-    turned (Err failure.LinkFault) d = (record { line = next.line; takes = takes; unanswered = d.0.0 }, d.0.1)
-    turned (Err failure.LinkEnded) d = record { line = next.line; takes = takes; unanswered = d.0 }
-    turned (Err failure.BadReply) d = record { line = next.line; takes = takes; unanswered = d.0 }
-    turned (Err failure.NoMemory) d = memory d.0
+    turn_does_next (Err failure.ReadFault) d = absurd d.0
+    turn_does_next (Err failure.WriteFault) d = (record { line = next.line; takes = takes; cut = d.0.0 }, d.0.1)
+    turn_does_next (Err failure.LinkFault) d = (record { line = next.line; takes = takes; unanswered = d.0.0 }, d.0.1)
+    turn_does_next (Err failure.LinkEnded) d = record { line = next.line; takes = takes; unanswered = d.0 }
+    turn_does_next (Err failure.BadReply) d = record { line = next.line; takes = takes; unanswered = d.0 }
+    turn_does_next (Err failure.NoMemory) d = memory d.0
 
 module _ (caller : Caller) (left left_new : Option (List ℕ)) (faults faults_new : ℕ) (ports : Ports) (old new : Scripting)
     (pending : TakenBytes) where

@@ -162,22 +162,22 @@ module _ (state : State) (event : Event) where
     purge_other id publisher = in_none state client wanted f (session_in state id) (purge state publisher)
         (purge_not state client wanted f publisher)
 
-  pub held : (ask : Ask) → ((step_ask state event ask).1 ≡ Held) ↔ PollsNothing state client ask
-  held (Lost id) =
+  pub held_on_poll : (ask : Ask) → ((step_ask state event ask).1 ≡ Held) ↔ PollsNothing state client ask
+  held_on_poll (Lost id) =
       neither _ _ (λ h. let bad : Heard ≡ Held = sym (lost_heard state client (session_in state id)) ∙ h in cc) (λ h. let bad = h.1 in cc)
-  held (Request (the_request.NewSession limit)) =
+  held_on_poll (Request (the_request.NewSession limit)) =
       neither _ _ (new_not state client Held held_no_reply event.random limit) (λ h. let bad = h.1 in cc)
-  held (Request (the_request.RenewSession id)) = neither _ _ (renew_other Held held_no_reply id) (λ h. let bad = h.1 in cc)
-  held (Request (the_request.EndSession id)) = neither _ _ (end_other Held held_no_reply id) (λ h. let bad = h.1 in cc)
-  held (Request (the_request.Publish id ops)) = neither _ _ (publish_other Held held_no_reply id ops) (λ h. let bad = h.1 in cc)
-  held (Request (the_request.Search id asked)) = neither _ _ (search_other Held held_no_reply id asked) (λ h. let bad = h.1 in cc)
-  held (Request (the_request.Subscribe id ops)) = neither _ _ (subscribe_other Held held_no_reply id ops) (λ h. let bad = h.1 in cc)
-  held (Request (the_request.Poll id)) = (
+  held_on_poll (Request (the_request.RenewSession id)) = neither _ _ (renew_other Held held_no_reply id) (λ h. let bad = h.1 in cc)
+  held_on_poll (Request (the_request.EndSession id)) = neither _ _ (end_other Held held_no_reply id) (λ h. let bad = h.1 in cc)
+  held_on_poll (Request (the_request.Publish id ops)) = neither _ _ (publish_other Held held_no_reply id ops) (λ h. let bad = h.1 in cc)
+  held_on_poll (Request (the_request.Search id asked)) = neither _ _ (search_other Held held_no_reply id asked) (λ h. let bad = h.1 in cc)
+  held_on_poll (Request (the_request.Subscribe id ops)) = neither _ _ (subscribe_other Held held_no_reply id ops) (λ h. let bad = h.1 in cc)
+  held_on_poll (Request (the_request.Poll id)) = (
     (λ h. (id, refl, (poll_held state client event.again (session_in state id)).0 h)),
     (λ h. (poll_held state client event.again (session_in state id)).1
         (subst (λ (i : List ℕ). HasNothing state.sessions i client) (sym (poll_id id h.0 h.1)) h.2)),
   )
-  held (Request (the_request.PurgePublisher id publisher)) =
+  held_on_poll (Request (the_request.PurgePublisher id publisher)) =
       neither _ _ (purge_other Held held_no_reply id publisher) (λ h. let bad = h.1 in cc)
 
   pub heard : (ask : Ask) → ((step_ask state event ask).1 ≡ Heard) ↔ IsLoss ask

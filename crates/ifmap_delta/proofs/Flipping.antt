@@ -1,5 +1,5 @@
 -- Which numbers have a link before a change and afterwards, by what is stored for their identifiers, and the flips between.
--- In order: links by identifiers (`named`, `linked_by`); those before the change by the numbers afterwards; an item whose
+-- In order: links by identifiers (`linked_have_identifiers`, `linked_by`); those before the change by the numbers afterwards; an item whose
 -- match changes, and of which an end has a mark, is a flip (`flipped`), and a flip is of such an item (`flip_of`); from a number
 -- with a mark, the links of the region's words are those of the two views (`old_there`, `there_mid`), and flips are theirs.
 use Rattle.std.proofs.Common.{◌≡◌, ◌⊎◌, inl, inr, ℕ, Bool, true, false, not, Option, Some, None, List, [], ◌∷◌, refl, ap, ◌∙◌}
@@ -39,9 +39,9 @@ found_change p (x ∷ xs) c e = elim (cases_Bool (p x)) [
 
 -- numbers with a link have identifiers whose link matches
 module _ (g : ViewSeen) (s : Search) where
-  pub named : (v w : ℕ) → Links g s v w
+  pub linked_have_identifiers : (v w : ℕ) → Links g s v w
       → (a : Identifier) × (b : Identifier) × (g.id_at v ≡ Some a) × (g.id_at w ≡ Some b) × (is_match g.rows s.match_links a b ≡ true)
-  named v w l = by (g.id_at v) (g.id_at w) refl refl (linked_matches g.rows g.id_at g.links s.match_links v w l)
+  linked_have_identifiers v w l = by (g.id_at v) (g.id_at w) refl refl (linked_matches g.rows g.id_at g.links s.match_links v w l)
     where
       by : (a b : Option Identifier) → g.id_at v ≡ a → g.id_at w ≡ b → one_meets s.match_links (stored_linked a b g.rows) ≡ true
           → (a : Identifier) × (b : Identifier) × (g.id_at v ≡ Some a) × (g.id_at w ≡ Some b)
@@ -76,7 +76,7 @@ module _ (tells : BytesTellIdentifiers) (old new : ViewSeen) (s : Search) (was :
       → (a : Identifier) × (b : Identifier) × (new.id_at v ≡ Some a) × (new.id_at w ≡ Some b)
       × (is_match old.rows s.match_links a b ≡ true)
   named_before v w l =
-      let n = named old s v w l
+      let n = linked_have_identifiers old s v w l
       in (n.0, n.1, change.numbers v n.0 n.2, change.numbers w n.1 n.3, n.4)
 
   -- what is stored on an item without a change stays
@@ -194,7 +194,7 @@ module _ (tells : BytesTellIdentifiers) (old new : ViewSeen) (s : Search) (was :
     pub removed_unlinked : (v w : ℕ) → IsFlipped flips false v w → Links new s v w → ⊥
     removed_unlinked v w f l =
         let n = flip_of v w false f
-        in let o = named new s v w l
+        in let o = linked_have_identifiers new s v w l
         in let a : o.0 ≡ n.0 = same_Some o.0 n.0 (sym o.2 ∙ n.2)
         in let b : o.1 ≡ n.1 = same_Some o.1 n.1 (sym o.3 ∙ n.3)
         in let q : true ≡ false = sym o.4 ∙ ap (λ x. is_match new.rows s.match_links x o.1) a
@@ -204,7 +204,7 @@ module _ (tells : BytesTellIdentifiers) (old new : ViewSeen) (s : Search) (was :
     -- a link of the new view that is not added was there
     pub stayed : (v w : ℕ) → Marked v → Links new s v w → ¬ IsFlipped flips true v w → Links old s v w
     stayed v w marked l apart =
-        let n = named new s v w l
+        let n = linked_have_identifiers new s v w l
         in elim (cases_Bool (is_match old.rows s.match_links n.0 n.1)) [
           | inl t ↦ linked_before v w n.0 n.1 n.2 n.3 t
           | inr t ↦ absurd (apart (flipped v w n.0 n.1 true marked n.2 n.3 t n.4))

@@ -213,8 +213,8 @@ module _ (tells : BytesTellIdentifiers) (reach : LevelsReach) (expand : LevelsEx
     still (Pair a b) i out e = pair_settled a b i out (match_stays a b i e)
 
     -- what is not gathered tells nothing
-    pub settled : (x : Item) → IsCanonItem x → (Has gathered_items x → ⊥) → HasNothingToTell old new s x
-    settled x i out = by (change_of changes x) refl
+    pub ungathered_stay : (x : Item) → IsCanonItem x → (Has gathered_items x → ⊥) → HasNothingToTell old new s x
+    ungathered_stay x i out = by (change_of changes x) refl
       where
         by : (o : Option ItemChange) → change_of changes x ≡ o → HasNothingToTell old new s x
         by None e =

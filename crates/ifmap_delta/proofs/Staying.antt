@@ -31,7 +31,7 @@ use Rattle.ifmap_delta.specs.Touched.{HasNothingToTell, is_looked_at_either, mov
 use Rattle.ifmap_delta.proofs.InStep.{number_found, number_none}
 use Rattle.ifmap_delta.proofs.Marking.{LevelsExpand, LevelsReach, expanded_is, not_expanded, not_reached, reached_is}
 use Rattle.ifmap_delta.proofs.Repairing.{repaired_marks}
-use Rattle.ifmap_delta.proofs.Settling.{expanded_before, reached_before, settled}
+use Rattle.ifmap_delta.proofs.Settling.{expanded_before, reached_before, ungathered_stay}
 use Rattle.ifmap_delta.proofs.Walking.{depths_over}
 use Rattle.ifmap_ident.specs.SameLaws.{BytesTellIdentifiers}
 
@@ -145,5 +145,5 @@ module _ (tells : BytesTellIdentifiers) (old new : ViewSeen) (s : Search) (was :
     -- each item tells nothing
     pub all_settled : (x : Item) → IsCanonItem x → HasNothingToTell old new s x
     all_settled x i =
-        settled tells reach expand old new s was is changes change start top start top mark mark before marks_stay keeps keeps' []
+        ungathered_stay tells reach expand old new s was is changes change start top start top mark mark before marks_stay keeps keeps' []
         (λ v d. absurd (d refl)) x i (none_gathered x)

@@ -27,7 +27,7 @@ use Rattle.ifmap_delta.specs.Bounds.{IsFlip, IsNear, one_and_links}
 use Rattle.ifmap_delta.specs.Changes.{ShowsAfter}
 use Rattle.ifmap_delta.specs.Flipped.{AreFlipsOf}
 use Rattle.ifmap_delta.specs.Sights.{Links, ViewSeen, is_terminal_in}
-use Rattle.ifmap_delta.proofs.Flipping.{added_flip, named, old_there, removed_flip, removed_linked, there_mid, there_old}
+use Rattle.ifmap_delta.proofs.Flipping.{added_flip, linked_have_identifiers, old_there, removed_flip, removed_linked, there_mid, there_old}
 use Rattle.ifmap_delta.proofs.Marking.{walk_marked}
 use Rattle.ifmap_region.specs.DepthLaws.{walk_over}
 use Rattle.ifmap_ident.specs.SameLaws.{BytesTellIdentifiers}
@@ -116,7 +116,7 @@ module _ (tells : BytesTellIdentifiers) (old new : ViewSeen) (s : Search) (was :
   -- what walks go on from before the change, they go on from afterwards
   terminal_to : (u v : ℕ) → T u ≡ false → Links old s u v → U u ≡ false
   terminal_to u v t l =
-      let n = named old s u v l
+      let n = linked_have_identifiers old s u v l
       in subst (λ o. is_terminal_at s.terminal o ≡ false) (sym (change.numbers u n.0 n.2))
       (subst (λ o. is_terminal_at s.terminal o ≡ false) n.2 t)
 

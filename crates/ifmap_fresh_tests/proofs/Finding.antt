@@ -39,9 +39,9 @@ none_above item s [] e a = refl
 none_above item s (t ∷ ts) e a = passed item t.item t.rows.items (rows_on_shelves ts) (above item s t e a.0) ∙ none_above item s ts e a.1
 
 -- the shelf of the item has all of it
-pub found : (item : Item) (s : Shelf) (ss : List Shelf) → all_pairs item_below (s ∷ ss) ≡ true → same_item s.item item ≡ true
+pub shelf_stores_all : (item : Item) (s : Shelf) (ss : List Shelf) → all_pairs item_below (s ∷ ss) ≡ true → same_item s.item item ≡ true
     → s.rows.items ≡ stored_on item (rows_on_shelves (s ∷ ss))
-found item s ss r e =
+shelf_stores_all item s ss r e =
     sym (kept item s.item s.rows.items (rows_on_shelves ss) e
     ∙ ap (λ l. s.rows.items ++ l) (none_above item s ss e (pairs_of item_below (s ∷ ss) r).0)
     ∙ append-nil s.rows.items)

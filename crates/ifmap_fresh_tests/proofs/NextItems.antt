@@ -17,7 +17,7 @@ use Rattle.ifmap_plans.specs.After.{IsAbove, IsNextItem, NoItem}
 use Rattle.ifmap_view.specs.Rows.{stored_on}
 use Rattle.ifmap_fresh_tests.specs.declared.shelves.Shelf.{Shelf}
 use Rattle.ifmap_fresh_tests.specs.Lists.{all_pairs, carries, is_above, has_rows, item_below, next_in, rows_on_shelves}
-use Rattle.ifmap_fresh_tests.proofs.Finding.{found, none_above, past}
+use Rattle.ifmap_fresh_tests.proofs.Finding.{shelf_stores_all, none_above, past}
 use Rattle.ifmap_fresh_tests.proofs.Pairs.{pairs_of}
 use Rattle.ifmap_ident.specs.SameLaws.{item_itself, items_total}
 
@@ -57,7 +57,7 @@ module _ (last : Option Item) where
       → (x : Item) → IsAbove last x → same_item s.item x ≡ true → stored_on x (rows_on_shelves (s ∷ ss)) ≡ []
   passed_over s ss r c x i e =
       let high : is_above last s.item ≡ true = above_same last s.item x e i in
-      sym (found x s ss r e) ∙ empty s.rows.items (only_full (has_rows s.rows.items) (is_above last s.item) high c)
+      sym (shelf_stores_all x s ss r e) ∙ empty s.rows.items (only_full (has_rows s.rows.items) (is_above last s.item) high c)
     where
       only_full : (p q : Bool) → q ≡ true → (p && q) ≡ false → p ≡ false
       only_full false q h n = refl
@@ -72,7 +72,7 @@ module _ (last : Option Item) where
         let p = and_parts (has_rows s.rows.items) (is_above last s.item) t in
         let here : IsNextItem (rows_on_shelves (s ∷ ss)) last s.item = record {
           above = above_is last s.item p.1;
-          carries = λ n. full s.rows.items p.0 (found s.item s ss r (item_itself s.item) ∙ n);
+          carries = λ n. full s.rows.items p.0 (shelf_stores_all s.item s ss r (item_itself s.item) ∙ n);
           least = λ other i m l. m (nothing_of other (s ∷ ss) (l, all_further other s ss l (pairs_of item_below (s ∷ ss) r).0));
         } in
         (subst (λ i. IsNextItem (rows_on_shelves (s ∷ ss)) last i) same here, subst IsCanonItem same c.0)

@@ -52,26 +52,27 @@ module _ {X : Type 0} (list_of : X → List Stored) (item : Item) where
   none_above (e ∷ es) a = passed_one item e.0 (list_of e.1) (rows_by list_of es) (greater_item_differs item e.0 a.0) ∙ none_above es a.1
 
   -- a look-up that hits gives what is stored on the item
-  pub found : (es : List (Item × X)) (at : X) → ItemsRise es → lookup (is_at (item_order item)) es ≡ Some at → list_of at ≡ stored_on item
+  pub entry_stores : (es : List (Item × X)) (at : X) → ItemsRise es → lookup (is_at (item_order item)) es ≡ Some at
+      → list_of at ≡ stored_on item
       (rows_by list_of es)
-  found [] at r h = absurd (none-some _ h)
-  found (e ∷ es) at r h = elim (cases_Bool (is_at (item_order item) e.0)) [
+  entry_stores [] at r h = absurd (none-some _ h)
+  entry_stores (e ∷ es) at r h = elim (cases_Bool (is_at (item_order item) e.0)) [
     | inl t ↦ let here : e.1 ≡ at = same_Some _ _ (rw t at h)
         in ap list_of (sym here)
         ∙ sym (kept_one item e.0 (list_of e.1) (rows_by list_of es) (sym (ties item e.0) ∙ t)
         ∙ ap (λ l. list_of e.1 ++ l)
         (none_above es (above_tied item e.0 (map (λ e. e.0) es) ((Equal-is (item_order item e.0)).0 t) (first_rises e es r).0))
         ∙ append-nil (list_of e.1))
-    | inr t ↦ found es at (first_rises e es r).1 (rw t at h)
+    | inr t ↦ entry_stores es at (first_rises e es r).1 (rw t at h)
         ∙ sym (passed_one item e.0 (list_of e.1) (rows_by list_of es) (sym (ties item e.0) ∙ t))
   ]
 
   -- and where it misses, nothing is
-  pub absent : (es : List (Item × X)) → lookup (is_at (item_order item)) es ≡ None → [] ≡ stored_on item (rows_by list_of es)
-  absent [] h = refl
-  absent (e ∷ es) h = elim (cases_Bool (is_at (item_order item) e.0)) [
+  pub unlisted_empty : (es : List (Item × X)) → lookup (is_at (item_order item)) es ≡ None → [] ≡ stored_on item (rows_by list_of es)
+  unlisted_empty [] h = refl
+  unlisted_empty (e ∷ es) h = elim (cases_Bool (is_at (item_order item) e.0)) [
     | inl t ↦ absurd (none-some _ (sym (rw t at h)))
-    | inr t ↦ absent es (rw t at h) ∙ sym (passed_one item e.0 (list_of e.1) (rows_by list_of es) (sym (ties item e.0) ∙ t))
+    | inr t ↦ unlisted_empty es (rw t at h) ∙ sym (passed_one item e.0 (list_of e.1) (rows_by list_of es) (sym (ties item e.0) ∙ t))
   ]
 
   -- an entry that is empty changes no attachments when it comes

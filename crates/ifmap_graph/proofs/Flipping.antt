@@ -43,7 +43,7 @@ use Rattle.ifmap_graph.specs.Touched.{ArePairs, KeepsLinks, exactly_one, draft_o
 use Rattle.ifmap_graph.specs.Turning.{sides_at}
 use Rattle.ifmap_graph.proofs.Apart.{changed_apart}
 use Rattle.ifmap_graph.proofs.Empty.{nothing_is_list, side_same}
-use Rattle.ifmap_graph.proofs.Finding.{absent, found, live_at}
+use Rattle.ifmap_graph.proofs.Finding.{unlisted_empty, entry_stores, live_at}
 use Rattle.ifmap_graph.proofs.Following.{entry_hits, lookup_tied, looked_up}
 use Rattle.ifmap_graph.proofs.KeyHolds.{numbers_differ}
 use Rattle.ifmap_graph.proofs.Links.{changed_listed}
@@ -212,9 +212,9 @@ pub stored_list : (side : StoredSide) (s : Shelves) → AreShelved s
 stored_list side s is all x = by (slot_of_item s x) refl
   where
     by : (o : Option ℕ) → slot_of_item s x ≡ o → IsList (stored_on x (rows_on_side side s))
-    by None e = subst IsList (absent (λ at. list_at side (get s.slots at)) x s.places.entries e) nothing_is_list
+    by None e = subst IsList (unlisted_empty (λ at. list_at side (get s.slots at)) x s.places.entries e) nothing_is_list
     by (Some at) e =
-        subst IsList (found (λ n. list_at side (get s.slots n)) x s.places.entries at is.rising e)
+        subst IsList (entry_stores (λ n. list_at side (get s.slots n)) x s.places.entries at is.rising e)
         (live_at (λ n. IsList (list_at side (get s.slots n))) (is_at (item_order x)) s.places.entries at all e)
 
 -- so is what is stored after a change
@@ -259,7 +259,7 @@ module _ (names : Holdings Identifier) (s t : Shelves) (links later : List (Side
     all_lists [] f = tt
     all_lists (e ∷ es) f = (
       subst IsList
-          (sym (found (λ n. list_at list_next (get t.slots n)) e.0 t.places.entries e.1 shelved.rising
+          (sym (entry_stores (λ n. list_at list_next (get t.slots n)) e.0 t.places.entries e.1 shelved.rising
           (entry_hits t.places.entries e.0 e.1 shelved.rising (f e (inl refl)))
           ∙ after e.0))
           (after_list (rows_on_side list_now s) changes e.0 fits.each (stored_list list_now s old.placed old.side.lists e.0)),

@@ -17,7 +17,7 @@ use Rattle.ifmap_plans.specs.After.{IsAbove, IsNextItem, NoItem}
 use Rattle.ifmap_view.specs.Rows.{stored_on}
 use Rattle.ifmap_graph.specs.After.{AreEmpty, IsFirstFull, entries_after}
 use Rattle.ifmap_graph.specs.Shelved.{ItemsRise, rows_by}
-use Rattle.ifmap_graph.proofs.Finding.{absent, first_rises, found, nothing_rises, rises_first}
+use Rattle.ifmap_graph.proofs.Finding.{unlisted_empty, first_rises, entry_stores, nothing_rises, rises_first}
 use Rattle.ifmap_lemmas.specs.Orderings.{is_less, not_both}
 use Rattle.ifmap_ident.specs.SameLaws.{items_total}
 
@@ -117,20 +117,20 @@ tied_above (Some i) x y e a = sym (alike_right items_total x y i e) ∙ a
 
 module _ {X : Type 0} (list_of : X → List Stored) (es : List (Item × X)) (rising : ItemsRise es) (after : Option Item) where
   pub stands : (item : Item) (at : X) → Has es (item, at) → list_of at ≡ stored_on item (rows_by list_of es)
-  stands item at h = found list_of item es at rising (entry_hits es item at rising h)
+  stands item at h = entry_stores list_of item es at rising (entry_hits es item at rising h)
 
   -- what carries an attachment ties with an entry after the bound, where it is above it
   carrier_ties_with_entry : (other : Item) → IsAbove after other → stored_on other (rows_by list_of es) ≢ [] → (o : Option X)
       → lookup (is_at (item_order other)) es ≡ o
       → (k : Item) × (at : X) × Has (entries_after after es) (k, at) × (list_of at ≢ []) × (item_order other k ≡ Equal)
-  carrier_ties_with_entry other a n None e = absurd (n (sym (absent list_of other es e)))
+  carrier_ties_with_entry other a n None e = absurd (n (sym (unlisted_empty list_of other es e)))
   carrier_ties_with_entry other a n (Some at) e =
       let h = looked_up es other at e
       in (
         h.0,
         at,
         of_after after es (h.0, at) h.1 (tied_above after other h.0 h.2 a),
-        λ m. n (sym (found list_of other es at rising e)
+        λ m. n (sym (entry_stores list_of other es at rising e)
             ∙ m),
         h.2,
       )

@@ -24,7 +24,7 @@ use Rattle.ifmap_graph.specs.Named.{AreEnds, AreIdentifiers, AreNumbered, HasEnd
 use Rattle.ifmap_graph.specs.Shelved.{IsPlaced, StoredSide, list_at, rows_by}
 use Rattle.ifmap_graph.proofs.Alike.{alike_equal, equal_alike}
 use Rattle.ifmap_graph.proofs.Graphs.{graph_is}
-use Rattle.ifmap_graph.proofs.Viewed.{alone, apart, each, handled, linked, only}
+use Rattle.ifmap_graph.proofs.Viewed.{alone, apart, each, handled, linked_is_numbered, only}
 use Rattle.ifmap_ident.specs.SameLaws.{BytesTellIdentifiers}
 
 -- the rows of shelves are those of their entries
@@ -175,7 +175,7 @@ module _ (names : Holdings Identifier) (look : ℕ → Option Shelf) (entries : 
           alone = alone (λ at. list_at side (look at)) entries (key_at names)
               (λ at. joined_pair (look at)) links placed.rising placed.canon s
               j is.listed tells keys;
-          linked = linked (λ at. list_at side (look at)) entries (key_at names)
+          linked = linked_is_numbered (λ at. list_at side (look at)) entries (key_at names)
               (λ at. joined_pair (look at)) links placed.rising placed.canon
               s j is.listed tells keys;
           apart = λ v. apart (λ at. list_at side (look at)) entries (key_at names) (λ at. joined_pair (look at)) links placed.rising

@@ -23,7 +23,7 @@ use Rattle.ifmap_graph.specs.Releasing.{IsLess}
 use Rattle.ifmap_graph.specs.Shelved.{AreShelved, HasEmptyShelf, ItemsRise, list_at, slot_of_item, rows_by, rows_on_side}
 use Rattle.ifmap_graph.specs.Sides.{Sides, list_next, list_now}
 use Rattle.ifmap_graph.specs.Waits.{waits_on, waits_there}
-use Rattle.ifmap_graph.proofs.Finding.{absent, found}
+use Rattle.ifmap_graph.proofs.Finding.{unlisted_empty, entry_stores}
 use Rattle.ifmap_graph.proofs.Following.{lookup_tied, looked_up}
 use Rattle.ifmap_graph.proofs.Gone.{bare_left}
 use Rattle.ifmap_graph.proofs.Moved.{inside_moved, lists_stay}
@@ -86,8 +86,8 @@ stored_tied : (list_of : ℕ → List Stored) (es : Entries) → ItemsRise es �
 stored_tied list_of es rising x y t = by (lookup (is_at (item_order y)) es) refl
   where
     by : (o : Option ℕ) → lookup (is_at (item_order y)) es ≡ o → stored_on x (rows_by list_of es) ≡ stored_on y (rows_by list_of es)
-    by None e = sym (absent list_of x es (lookup_tied x y es t ∙ e)) ∙ absent list_of y es e
-    by (Some at) e = sym (found list_of x es at rising (lookup_tied x y es t ∙ e)) ∙ found list_of y es at rising e
+    by None e = sym (unlisted_empty list_of x es (lookup_tied x y es t ∙ e)) ∙ unlisted_empty list_of y es e
+    by (Some at) e = sym (entry_stores list_of x es at rising (lookup_tied x y es t ∙ e)) ∙ entry_stores list_of y es at rising e
 
 -- the shelf of an item goes, on which nothing is stored
 pub less_removed : (names left : Holdings Identifier) (s t : Shelves) (item : Item) → AreShelved s → AreShelved t
@@ -143,6 +143,7 @@ is_bare s item at is bare here empty =
       here,
       l.1,
       both l.0.stored
-          (sym (ap (list_at list_now) l.1) ∙ found (λ n. list_at list_now (get s.slots n)) item s.places.entries at is.rising here ∙ empty)
+          (sym (ap (list_at list_now) l.1)
+          ∙ entry_stores (λ n. list_at list_now (get s.slots n)) item s.places.entries at is.rising here ∙ empty)
           none,
     )

@@ -18,7 +18,7 @@ use Rattle.ifmap_graph.specs.Shelved.{HasEmptyShelf, list_at, slot_of_item, rows
 use Rattle.ifmap_graph.specs.Sides.{Sides, list_now}
 use Rattle.ifmap_graph.specs.Waits.{waits_on}
 use Rattle.ifmap_graph.proofs.Brought.{brings_less, brings_unless, never_waited}
-use Rattle.ifmap_graph.proofs.Finding.{absent}
+use Rattle.ifmap_graph.proofs.Finding.{unlisted_empty}
 use Rattle.ifmap_graph.proofs.Lessening.{is_bare, less_itself, less_on}
 use Rattle.ifmap_lemmas.specs.Options.{some_is}
 use Rattle.ifmap_graph.proofs.Accepting.{apart_after}
@@ -82,7 +82,7 @@ module _ (items : List Item) (marks : List Bool) (names : Holdings Identifier) (
         in let at = some_is (slot_of_item s x) p.there.0
         in is_bare s x at.0 (g.less.inside links is).placed (g.less.bare bare) at.1
         (ap (stored_on x) (g.less.rows ∙ sym rows)
-        ∙ sym (absent (λ n. list_at list_now (get origin.slots n)) x origin.places.entries p.absent.0))
+        ∙ sym (unlisted_empty (λ n. list_at list_now (get origin.slots n)) x origin.places.entries p.absent.0))
 
     pub takes_idle : (origin : Shelves) → BringsShelves (flagged_items items marks) origin first → came ≡ true → waits_on s x ≡ 0
     takes_idle origin b t = let p = came_here origin b t in p.waits x ∙ never_waited origin x p.absent.0

@@ -19,7 +19,7 @@ use Rattle.ifmap_graph.specs.Linked.{link_places}
 use Rattle.ifmap_graph.specs.Named.{AreEnds, AreNumbered, HasEnds}
 use Rattle.ifmap_graph.specs.Shelved.{AreShelved, IsPlaced, StoredSide, list_at, rows_on_side}
 use Rattle.ifmap_graph.specs.Sides.{Sides, list_next, list_now}
-use Rattle.ifmap_graph.proofs.Finding.{found}
+use Rattle.ifmap_graph.proofs.Finding.{entry_stores}
 use Rattle.ifmap_graph.proofs.Following.{entry_hits}
 use Rattle.ifmap_graph.proofs.Shelving.{Entries}
 use Rattle.ifmap_graph.proofs.Staying.{ends_of}
@@ -122,10 +122,11 @@ module _ (s t : Shelves) (is : AreShelved s) (later : AreShelved t) (places : t.
     (ends : (at : ℕ) → ends_at t at ≡ ends_at s at) (side other : StoredSide) (rows : rows_on_side other t ≡ rows_on_side side s) where
   at_item : (at : ℕ) (item : Item) → Has s.places.entries (item, at) → list_at other (get t.slots at) ≡ list_at side (get s.slots at)
   at_item at item h =
-      found (λ n. list_at other (get t.slots n)) item t.places.entries at later.rising
+      entry_stores (λ n. list_at other (get t.slots n)) item t.places.entries at later.rising
       (entry_hits t.places.entries item at later.rising (subst (λ p. Has p.entries (item, at)) (sym places) h))
       ∙ ap (stored_on item) rows
-      ∙ sym (found (λ n. list_at side (get s.slots n)) item s.places.entries at is.rising (entry_hits s.places.entries item at is.rising h))
+      ∙ sym (entry_stores (λ n. list_at side (get s.slots n)) item s.places.entries at is.rising
+      (entry_hits s.places.entries item at is.rising h))
 
   none_there : (o p : Option Shelf) → ends_of p ≡ ends_of o → o ≡ None → list_at other p ≡ list_at side o
   none_there None None e n = refl

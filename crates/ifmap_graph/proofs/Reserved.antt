@@ -33,7 +33,7 @@ use Rattle.ifmap_graph.specs.Stays.{HasSameShelf, StayPlaced}
 use Rattle.ifmap_graph.specs.Turning.{AreDrafted, NoOthers}
 use Rattle.ifmap_graph.specs.Waits.{waits_on}
 use Rattle.ifmap_graph.proofs.Backs.{keeps_backs}
-use Rattle.ifmap_graph.proofs.Finding.{absent}
+use Rattle.ifmap_graph.proofs.Finding.{unlisted_empty}
 use Rattle.ifmap_graph.proofs.Insides.{named_shown, rows_shown}
 use Rattle.ifmap_graph.proofs.Lean.{made_lean, unmade_lean}
 use Rattle.ifmap_graph.proofs.Lessening.{waited_there}
@@ -99,7 +99,7 @@ module _ (names later : Holdings Identifier) (s t : Shelves) (links moved : List
         → HasSameShelf (inside_of names s links) (inside_of later t moved) x
     full_there x None e n =
         absurd (n (ap (stored_on x) (rows_shown list_now (get s.slots) s.places.entries)
-        ∙ sym (absent (λ at. list_at list_now (get s.slots at)) x s.places.entries e)))
+        ∙ sym (unlisted_empty (λ at. list_at list_now (get s.slots at)) x s.places.entries e)))
     full_there x (Some at) e n = there x at e
 
     stay : StayPlaced (inside_of names s links) (inside_of later t moved)

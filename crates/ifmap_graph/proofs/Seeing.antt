@@ -20,7 +20,7 @@ use Rattle.ifmap_graph.specs.Linked.{AreListed, link_places}
 use Rattle.ifmap_graph.specs.Shelved.{IsPlaced, list_at, rows_by}
 use Rattle.ifmap_graph.specs.Sides.{Sides, list_now}
 use Rattle.ifmap_graph.specs.Stays.{HasSameShelf, ends_in, ends_there_in}
-use Rattle.ifmap_graph.proofs.Finding.{found}
+use Rattle.ifmap_graph.proofs.Finding.{entry_stores}
 use Rattle.ifmap_graph.proofs.Following.{entry_hits}
 use Rattle.ifmap_graph.proofs.Insides.{live_by, lookup_shown}
 use Rattle.ifmap_graph.proofs.Shelving.{Entries}
@@ -63,7 +63,7 @@ module _ (look : ℕ → Option Shelf) (es : Entries) (names : Holdings Identifi
     (links : ℕ → List LinkSeen) (placed : IsPlaced look es) (used : (at : ℕ) → IsSome (look at) → (item : Item) × Has es (item, at))
     (same : (x : Item) → stored_on x (rows_by (λ at. list_at list_now (look at)) es) ≡ stored_on x rows) where
   on_slot : (x : Item) (at : ℕ) → lookup (is_at (item_order x)) es ≡ Some at → list_at list_now (look at) ≡ stored_on x rows
-  on_slot x at e = found (λ n. list_at list_now (look n)) x es at placed.rising e ∙ same x
+  on_slot x at e = entry_stores (λ n. list_at list_now (look n)) x es at placed.rising e ∙ same x
 
   pub links_by_items : AreListed (λ at. joined_pair (look at)) (λ at. is_not_empty (list_at list_now (look at))) links
       → ((v : ℕ) → IsDistinct nat_eq (link_places (links v))) → AreLinks rows links (seen_of look es names sides)

@@ -34,7 +34,7 @@ use Rattle.ifmap_graph.specs.Turning.{AreDrafted, AreWithin, NoOthers, accept_ea
 use Rattle.ifmap_graph.specs.Waits.{times_in, waits_on}
 use Rattle.ifmap_graph.proofs.Backs.{links_stay}
 use Rattle.ifmap_graph.proofs.Bare.{list_bare, no_draft}
-use Rattle.ifmap_graph.proofs.Finding.{absent, found}
+use Rattle.ifmap_graph.proofs.Finding.{unlisted_empty, entry_stores}
 use Rattle.ifmap_graph.proofs.Graphs.{graph_is}
 use Rattle.ifmap_graph.proofs.Insides.{rows_shown}
 use Rattle.ifmap_graph.proofs.Seeing.{links_by_items, seen_of, stays_there}
@@ -66,12 +66,12 @@ pub else_same : (s : Shelves) (x : Item) → AreShelved s → (HasDraft s x → 
 else_same s x is f = by (slot_of_item s x) refl
   where
     by : (o : Option ℕ) → slot_of_item s x ≡ o → stored_on x (rows_on_side list_next s) ≡ stored_on x (rows_on_side list_now s)
-    by None e = sym (absent (λ n. list_at list_next (get s.slots n)) x s.places.entries e)
-        ∙ absent (λ n. list_at list_now (get s.slots n)) x s.places.entries e
+    by None e = sym (unlisted_empty (λ n. list_at list_next (get s.slots n)) x s.places.entries e)
+        ∙ unlisted_empty (λ n. list_at list_now (get s.slots n)) x s.places.entries e
     by (Some at) e =
-        sym (found (λ n. list_at list_next (get s.slots n)) x s.places.entries at is.rising e)
+        sym (entry_stores (λ n. list_at list_next (get s.slots n)) x s.places.entries at is.rising e)
         ∙ list_bare (get s.slots at) (no_draft (get s.slots at) (λ shelf here has. f (at, shelf, e, here, has)))
-        ∙ found (λ n. list_at list_now (get s.slots n)) x s.places.entries at is.rising e
+        ∙ entry_stores (λ n. list_at list_now (get s.slots n)) x s.places.entries at is.rising e
 
 module _ (names : Holdings Identifier) (s t : Shelves) (links moved : List (Sides LinkSeen))
     (is : IsInside names (get s.slots) s.places.entries links)

@@ -27,7 +27,7 @@ use Rattle.ifmap_graph.specs.Turning.{restore_each, sides_at}
 use Rattle.ifmap_graph.specs.Waits.{times_in, waits_on}
 use Rattle.ifmap_graph.proofs.Backs.{links_stay}
 use Rattle.ifmap_graph.proofs.Bare.{list_bare}
-use Rattle.ifmap_graph.proofs.Finding.{found}
+use Rattle.ifmap_graph.proofs.Finding.{entry_stores}
 use Rattle.ifmap_graph.proofs.Following.{entry_hits}
 use Rattle.ifmap_graph.proofs.Graphs.{graph_is}
 use Rattle.ifmap_graph.proofs.Insides.{rows_shown}
@@ -82,7 +82,7 @@ module _ (names : Holdings Identifier) (look later : ℕ → Option Shelf) (es :
   lists : (xs : Entries) → ((e : Item × ℕ) → Has xs e → Has es e) → AllByRecursion (λ e. IsList (list_at list_now (later e.1))) xs
   lists [] f = tt
   lists (e ∷ xs) f = (
-    subst IsList (sym (found (λ at. list_at list_now (later at)) e.0 es e.1 later_is_placed.rising
+    subst IsList (sym (entry_stores (λ at. list_at list_now (later at)) e.0 es e.1 later_is_placed.rising
         (entry_hits es e.0 e.1 later_is_placed.rising (f e (inl refl))) ∙ stored_as_before e.0))
         (list_on e.0 rows back.graph),
     lists xs (λ x h. f x (inr h)),

@@ -29,7 +29,7 @@ use Rattle.ifmap_graph.specs.Shelved.{list_at, rows_on_side}
 use Rattle.ifmap_graph.specs.Sides.{Sides, list_now}
 use Rattle.ifmap_graph.specs.Waits.{waits_on}
 use Rattle.ifmap_graph.proofs.Alike.{equal_alike}
-use Rattle.ifmap_graph.proofs.Finding.{found}
+use Rattle.ifmap_graph.proofs.Finding.{entry_stores}
 use Rattle.ifmap_graph.proofs.Following.{entry_hits}
 use Rattle.ifmap_graph.proofs.Insides.{named_shown, names_by, rows_shown}
 use Rattle.ifmap_graph.proofs.Lean.{lean_from}
@@ -98,7 +98,7 @@ module _ (names : Holdings Identifier) (s : Shelves) (links : List (Sides LinkSe
       → Has (identifiers_of e.0) a → IsAttached (rows_on_side list_now s) a
   entry_attached filled idle e h a named =
       let place = entry_hits s.places.entries e.0 e.1 is.placed.rising h
-      in let on = found list_of e.0 s.places.entries e.1 is.placed.rising place
+      in let on = entry_stores list_of e.0 s.places.entries e.1 is.placed.rising place
       in let some = first_of (list_of e.1) (λ q. filled e.0 (subst IsSome (sym place) refl) (idle e.0) (sym on ∙ q))
       in (
         row_on e.0 some.0,

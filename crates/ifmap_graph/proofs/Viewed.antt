@@ -32,7 +32,7 @@ use Rattle.ifmap_graph.specs.Linked.{AreListed, JoinsNumbers, link_places}
 use Rattle.ifmap_graph.specs.Shelved.{ItemsRise, rows_by}
 use Rattle.ifmap_graph.proofs.Alike.{Alike, one_tied, order_alike, pair_less, pair_more, pair_tied, pairs_tie, same_pair, stored_alike}
 use Rattle.ifmap_graph.proofs.Following.{entry_hits, lookup_tied, looked_up, stands}
-use Rattle.ifmap_graph.proofs.Finding.{absent, found}
+use Rattle.ifmap_graph.proofs.Finding.{unlisted_empty, entry_stores}
 use Rattle.ifmap_ident.specs.SameLaws.{turned_order, BytesTellIdentifiers}
 
 others_differ : (l : LinkSeen) (ls : List LinkSeen) → AllByRecursion (λ y. nat_eq l.at y ≡ false) (link_places ls)
@@ -111,7 +111,7 @@ module _ (list_of : ℕ → List Stored) (entries : List (Item × ℕ)) (id_at :
   pair_has_slot : (k m : Identifier) → stored_on (Pair k m) rows ≢ [] → (o : Option ℕ) → lookup (is_at (item_order (Pair k m))) entries ≡ o
       → (at : ℕ) × (v : ℕ) × (w : ℕ) × (joins at ≡ Some (v, w)) × IsNumber id_at v k × IsNumber id_at w m ×
       (is_not_empty (list_of at) ≡ true)
-  pair_has_slot k m n None e = absurd (n (sym (absent list_of (Pair k m) entries e)))
+  pair_has_slot k m n None e = absurd (n (sym (unlisted_empty list_of (Pair k m) entries e)))
   pair_has_slot k m n (Some at) e =
       let h = looked_up entries (Pair k m) at e
       in let t = pair_tied k m h.0 h.2
@@ -123,7 +123,7 @@ module _ (list_of : ℕ → List Stored) (entries : List (Item × ℕ)) (id_at :
         j.2,
         (j.3.0, j.3.1, j.3.2 ∙ t.3),
         (j.4.0, j.4.1, j.4.2 ∙ t.4),
-        ap is_not_empty (found list_of (Pair k m) entries at rising e) ∙ some_full _ n,
+        ap is_not_empty (entry_stores list_of (Pair k m) entries at rising e) ∙ some_full _ n,
       )
 
   same_number : (v w : ℕ) (a : Identifier) → IsNumber id_at v a → id_at w ≡ Some a → v ≡ w
@@ -159,7 +159,7 @@ module _ (list_of : ℕ → List Stored) (entries : List (Item × ℕ)) (id_at :
 
     numbered : (a : Identifier) → stored_on (One a) rows ≢ [] → (o : Option ℕ) → lookup (is_at (item_order (One a))) entries ≡ o → (v : ℕ)
         × IsNumber id_at v a
-    numbered a n None e = absurd (n (sym (absent list_of (One a) entries e)))
+    numbered a n None e = absurd (n (sym (unlisted_empty list_of (One a) entries e)))
     numbered a n (Some at) e =
         let h = looked_up entries (One a) at e
         in let t = one_tied a h.0 h.2
@@ -169,8 +169,8 @@ module _ (list_of : ℕ → List Stored) (entries : List (Item × ℕ)) (id_at :
     pub alone : (a : Identifier) → IsIdentifier a → stored_on (One a) rows ≢ [] → (v : ℕ) × (id_at v ≡ Some a)
     alone a i n = let x = numbered a n _ refl in (x.0, exact x.0 a i x.1)
 
-    pub linked : (a b : Identifier) → IsIdentifier b → stored_between a b rows ≢ [] → (w : ℕ) × (id_at w ≡ Some b)
-    linked a b i n = by (identifier_order a b) refl
+    pub linked_is_numbered : (a b : Identifier) → IsIdentifier b → stored_between a b rows ≢ [] → (w : ℕ) × (id_at w ≡ Some b)
+    linked_is_numbered a b i n = by (identifier_order a b) refl
       where
         by : (o : Ordering) → identifier_order a b ≡ o → (w : ℕ) × (id_at w ≡ Some b)
         by Less is = let x = pair_has_slot a b (λ m. n (ap (λ o. stored_where (ordered_pair o a b) rows) is ∙ m)) _ refl in

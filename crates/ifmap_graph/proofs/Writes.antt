@@ -24,7 +24,7 @@ use Rattle.ifmap_graph.specs.declared.shelves.Shelf.{Shelf}
 use Rattle.ifmap_graph.specs.Shelved.{IsPlaced, StoredSide, list_at, rows_by}
 use Rattle.ifmap_graph.specs.Waits.{waits_at, waits_of, waits_there}
 use Rattle.ifmap_graph.proofs.Following.{lookup_tied, looked_up}
-use Rattle.ifmap_graph.proofs.Finding.{absent, found, live_at}
+use Rattle.ifmap_graph.proofs.Finding.{unlisted_empty, entry_stores, live_at}
 use Rattle.ifmap_graph.proofs.Shelving.{Entries, slots_of}
 use Rattle.ifmap_ident.specs.SameLaws.{items_total}
 use Rattle.ifmap_lemmas.specs.Options.{some_is}
@@ -69,7 +69,7 @@ module _ (look later : ℕ → Option Shelf) (es : Entries) (is : IsPlaced look 
 
   pub on_item : (side : StoredSide) (x : Item) → is_at (item_order item) x ≡ true
       → stored_on x (rows_by (λ n. list_at side (later n)) es) ≡ list_at side (later at)
-  on_item side x t = sym (found (λ n. list_at side (later n)) x es at is.rising (tied_there x t))
+  on_item side x t = sym (entry_stores (λ n. list_at side (later n)) x es at is.rising (tied_there x t))
 
   pub on_others : (side : StoredSide) (x : Item) → is_at (item_order item) x ≡ false
       → stored_on x (rows_by (λ n. list_at side (later n)) es) ≡ stored_on x (rows_by (λ n. list_at side (look n)) es)
@@ -77,11 +77,11 @@ module _ (look later : ℕ → Option Shelf) (es : Entries) (is : IsPlaced look 
     where
       by : (o : Option ℕ) → lookup (is_at (item_order x)) es ≡ o
           → stored_on x (rows_by (λ n. list_at side (later n)) es) ≡ stored_on x (rows_by (λ n. list_at side (look n)) es)
-      by None e = sym (absent (λ n. list_at side (later n)) x es e) ∙ absent (λ n. list_at side (look n)) x es e
+      by None e = sym (unlisted_empty (λ n. list_at side (later n)) x es e) ∙ unlisted_empty (λ n. list_at side (look n)) x es e
       by (Some bt) e =
-          sym (found (λ n. list_at side (later n)) x es bt is.rising e)
+          sym (entry_stores (λ n. list_at side (later n)) x es bt is.rising e)
           ∙ ap (list_at side) (others bt (other_slot es item at is.apart here x bt f e))
-          ∙ found (λ n. list_at side (look n)) x es bt is.rising e
+          ∙ entry_stores (λ n. list_at side (look n)) x es bt is.rising e
 
   live_later : IsSome (later at) → (es : Entries) → AllByRecursion (λ e. IsSome (look e.1)) es → AllByRecursion (λ e. IsSome (later e.1)) es
   live_later s [] a = tt
@@ -190,7 +190,7 @@ module _ (w : Write) where
   pub stood : (side : StoredSide) (x : Item) → is_at (item_order w.item) x ≡ true → side w.was.stored ≡ stored_on x
       (rows_by (λ n. list_at side (get w.slots n)) w.es)
   stood side x e =
-      sym (ap (list_at side) w.had) ∙ found (λ n. list_at side (get w.slots n)) x w.es w.at w.is.rising (tied_here x e)
+      sym (ap (list_at side) w.had) ∙ entry_stores (λ n. list_at side (get w.slots n)) x w.es w.at w.is.rising (tied_here x e)
 
   -- what is stored on each item now
   pub shows : (side : StoredSide) (list : List Stored) → side w.later.stored ≡ list → (x : Item)

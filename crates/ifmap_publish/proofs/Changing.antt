@@ -183,13 +183,13 @@ module _ (rows : List Attachment) where
     both_empty [] ys e = (refl, e)
     both_empty (x ∷ xs) ys e = cc
 
-    pub changed : (x : Item) (es : List Entry) → AreSound es → IsStrictlySortedBy item_order (keys_of es)
+    pub list_after_changes : (x : Item) (es : List Entry) → AreSound es → IsStrictlySortedBy item_order (keys_of es)
         → list_after (change_of (changes_to rows es) x) (stored_on x rows)
         ≡ list_or (lookup (is_at (item_order x)) es) (stored_on x rows)
-    changed x [] sound up = refl
-    changed x (e ∷ es) sound up =
+    list_after_changes x [] sound up = refl
+    list_after_changes x (e ∷ es) sound up =
         let parts = first_key e es up in
-        let rest = changed x es sound.1 parts.1 in
+        let rest = list_after_changes x es sound.1 parts.1 in
         elim (cases_Bool (same_item e.0 x)) [
           | inl is ↦
               let alike : stored_on x rows ≡ stored_on e.0 rows = stored_alike e.0 x is rows in
@@ -229,7 +229,7 @@ module _ (rows : List Attachment) where
     module _ (after : List Attachment) (es : List Entry) (sound : AreSound es) (up : IsStrictlySortedBy item_order (keys_of es))
         (applied : (x : Item) → stored_by rows (λ q. lookup (is_at (item_order q)) es) x ≡ stored_on x after) where
       pub is_after : IsAfter (changes_to rows es) rows after
-      is_after x = sym (applied x) ∙ sym (changed x es sound up)
+      is_after x = sym (applied x) ∙ sym (list_after_changes x es sound up)
 
       pub are_exact : AreExact rows after (changes_to rows es)
       are_exact = all_kept (λ c. (c.removed ≡ stored_difference (stored_on c.item rows) (stored_on c.item after))

@@ -26,8 +26,8 @@ pub sorted_first : (s : Stored) (xs : List Stored) → IsStrictlySortedBy stored
 unfolding IsStrictlySortedBy
 sorted_first s xs up = up
 
-pub turned : (a b : Stored) → stored_order a b ≡ Less → stored_order b a ≡ Greater
-turned a b e = less_turned stored_total a b e
+pub less_is_greater : (a b : Stored) → stored_order a b ≡ Less → stored_order b a ≡ Greater
+less_is_greater a b e = less_turned stored_total a b e
 
 pub above_above : (a b : Stored) (xs : List Stored) → stored_order a b ≡ Less → AllAbove b xs → AllAbove a xs
 above_above a b xs e all = all_weaker (λ y. stored_order b y ≡ Less) (λ y. stored_order a y ≡ Less)
@@ -46,7 +46,7 @@ pub other_passed : (o : Stored) (os xs : List Stored) → AllAbove o xs → stor
 other_passed o os xs all =
     filter_alike (λ s. not (list_any (same_stored s) (o ∷ os))) (λ s. not (list_any (same_stored s) os)) xs
     (all_weaker (λ y. stored_order o y ≡ Less) (λ s. not (list_any (same_stored s) (o ∷ os)) ≡ not (list_any (same_stored s) os))
-    (λ s l. ap (λ b. not (b || list_any (same_stored s) os)) (greater_differs s o (turned o s l))) xs all)
+    (λ s l. ap (λ b. not (b || list_any (same_stored s) os)) (greater_differs s o (less_is_greater o s l))) xs all)
 
 -- one that is below all of the other list is in the difference
 pub first_kept : (o : Stored) (os ns : List Stored) → AllAbove o ns → stored_difference (o ∷ os) ns ≡ o ∷ stored_difference os ns
@@ -81,7 +81,7 @@ first_gone o gone os all =
 pub none_tied : (o : Stored) (gone : List Stored) → AllAbove o gone → list_any (λ r. eq_by_cmp stored_order r o) gone ≡ false
 none_tied o [] all = refl
 none_tied o (g ∷ gone) all =
-    ap (λ c. is_eq c || list_any (λ r. eq_by_cmp stored_order r o) gone) (turned o g all.0) ∙ none_tied o gone all.1
+    ap (λ c. is_eq c || list_any (λ r. eq_by_cmp stored_order r o) gone) (less_is_greater o g all.0) ∙ none_tied o gone all.1
 
 -- the first stays where all that go are above it
 first_stays : (o : Stored) (gone os : List Stored) → AllAbove o gone → list_without gone (o ∷ os) ≡ o ∷ list_without gone os
@@ -95,7 +95,7 @@ put_past x (y ∷ ys) list all = ap (put_each ys) (put_less Stored stored_order 
 
 pub put_below : (n : Stored) (base : List Stored) → AllAbove n base → put stored_order n base ≡ n ∷ base
 put_below n base all = put_front Stored stored_order stored_total n base
-    (all_weaker (λ y. stored_order n y ≡ Less) (λ y. stored_order y n ≡ Greater) (λ y l. turned n y l) base all)
+    (all_weaker (λ y. stored_order n y ≡ Less) (λ y. stored_order y n ≡ Greater) (λ y l. less_is_greater n y l) base all)
 
 put_all : (ns : List Stored) → IsStrictlySortedBy stored_order ns → put_each ns [] ≡ ns
 put_all [] up = refl

@@ -27,7 +27,7 @@ use Rattle.ifmap_view.specs.Attachments.{stored_bytes, stored_order}
 use Rattle.ifmap_publish.specs.Working.{EditMakes, IsEdit, IsSound, list_by}
 use Rattle.ifmap_publish.specs.declared.edits.Edit.{Edit}
 use Rattle.ifmap_publish.proofs.Attaching.{sound_filter}
-use Rattle.ifmap_publish.proofs.Rising.{among_filter, moved, parted, put_back, put_filtered, put_unfiltered}
+use Rattle.ifmap_publish.proofs.Rising.{among_filter, difference_stays, parted, put_back, put_filtered, put_unfiltered}
 use Rattle.ifmap_publish.proofs.Same.{elements_one}
 
 -- ---- what makes an edit make a list
@@ -161,8 +161,8 @@ passed_out k rows up =
 
 pub removed_is : (stored list : List Stored) (e : Edit) → IsStrictlySortedBy stored_order stored → EditMakes stored e list
     → stored_difference e.taken e.put ≡ stored_difference stored list
-removed_is stored list e up m = moved stored list e.taken e.put up m.taken m.put m.stays
+removed_is stored list e up m = difference_stays stored list e.taken e.put up m.taken m.put m.stays
 
 pub added_is : (stored list : List Stored) (e : Edit) → EditMakes stored e list
     → stored_difference e.put e.taken ≡ stored_difference list stored
-added_is stored list e m = moved list stored e.put e.taken m.sound.keyed.rising m.put m.taken (sym m.stays)
+added_is stored list e m = difference_stays list stored e.put e.taken m.sound.keyed.rising m.put m.taken (sym m.stays)

@@ -15,14 +15,14 @@ use Rattle.ifmap_meta.specs.declared.stored.Stored.{Stored}
 use Rattle.ifmap_rows.specs.ifmap_plans.Lists.{is_among, put_each}
 use Rattle.ifmap_view.specs.Attachments.{stored_order}
 use Rattle.ifmap_publish.specs.Working.{PassesOneStored, after_like}
-use Rattle.ifmap_publish.proofs.Differing.{AllAbove, itself, sorted_first, turned}
+use Rattle.ifmap_publish.proofs.Differing.{AllAbove, itself, sorted_first, less_is_greater}
 use Rattle.ifmap_publish.proofs.Gathering.{put_found}
 use Rattle.ifmap_publish.proofs.Passing.{sorted_drop}
 use Rattle.ifmap_publish.proofs.Rising.{among_filter}
 
 none_like : (s : Stored) (xs : List Stored) → AllAbove s xs → after_like s xs ≡ None
 none_like s [] all = refl
-none_like s (x ∷ xs) all = ap (λ o. cond (is_eq o) (Some xs) None) (turned s x all.0)
+none_like s (x ∷ xs) all = ap (λ o. cond (is_eq o) (Some xs) None) (less_is_greater s x all.0)
 
 some_like : (s : Stored) (xs : List Stored) → after_like s (s ∷ xs) ≡ Some xs
 some_like s xs = ap (λ o. cond (is_eq o) (Some xs) None) (itself s)

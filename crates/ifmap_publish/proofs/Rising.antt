@@ -28,7 +28,7 @@ use Rattle.ifmap_rows.specs.ifmap_plans.Placing.{put}
 use Rattle.ifmap_rows.specs.ifmap_plans.laws.KeyLaws.{stored_equiv, stored_total}
 use Rattle.ifmap_rows.specs.ifmap_plans.laws.PlacingLaws.{put_less}
 use Rattle.ifmap_view.specs.Attachments.{stored_bytes, stored_order}
-use Rattle.ifmap_publish.proofs.Differing.{AllAbove, itself, none_tied, put_below, put_past, sorted_first, turned}
+use Rattle.ifmap_publish.proofs.Differing.{AllAbove, itself, none_tied, put_below, put_past, sorted_first, less_is_greater}
 use Rattle.ifmap_publish.proofs.Same.{same_itself}
 
 -- ---- members that tie
@@ -150,7 +150,7 @@ parted row [] up apart = refl
 parted row (x ∷ xs) up apart = by (stored_order x row) refl (parted row xs (sorted_first x xs up).1 apart.1)
   where
     greater : stored_order x row ≡ Greater → (y : Stored) → stored_order x y ≡ Less → stored_order y row ≡ Greater
-    greater e y l = turned row y (stored_total.trans row x y (greater_turned stored_total x row e) l)
+    greater e y l = less_is_greater row y (stored_total.trans row x y (greater_turned stored_total x row e) l)
 
     above : stored_order x row ≡ Greater → AllByRecursion (λ y. stored_order y row ≡ Greater) xs
     above e = all_weaker (λ y. stored_order x y ≡ Less) (λ y. stored_order y row ≡ Greater) (λ y l. greater e y l) xs
@@ -240,8 +240,8 @@ module _ (xs ys xt yt : List Stored) (up : IsStrictlySortedBy stored_order xs) (
       by true e = ap not (sym (found_either s h e))
       by false e = sym (ap not (has_any (same_stored s) ys s (stays_in_both s h e) (same_itself s)))
 
-  pub moved : stored_difference xt yt ≡ stored_difference xs ys
-  moved =
+  pub difference_stays : stored_difference xt yt ≡ stored_difference xs ys
+  difference_stays =
       ap (λ l. stored_difference l yt) left
       ∙ filter_twice (is_among xt) (λ s. not (list_any (same_stored s) yt)) xs
       ∙ filter_agrees (λ s. is_among xt s && not (list_any (same_stored s) yt)) (λ s. not (list_any (same_stored s) ys)) xs told_alike

@@ -9,9 +9,9 @@ use Rattle.ifmap_elem.specs.declared.outlines.Piece.{Piece}
 use Rattle.ifmap_elem.specs.Building.{as_children}
 
 -- what pieces stand for, where one is put after them
-pub put : (pieces more : List Piece) (piece : Piece) (made : Child) → outline_child piece ≡ made → more ≡ pieces ++ piece ∷ []
+pub piece_put_after : (pieces more : List Piece) (piece : Piece) (made : Child) → outline_child piece ≡ made → more ≡ pieces ++ piece ∷ []
     → map outline_child more ≡ map outline_child pieces ++ made ∷ []
-put pieces more piece made is pushed =
+piece_put_after pieces more piece made is pushed =
     ap (map outline_child) pushed ∙ map-append outline_child pieces (piece ∷ [])
     ∙ ap (λ c. map outline_child pieces ++ c ∷ []) is
 
@@ -29,5 +29,5 @@ pub put_next : {X : Type 0} (f : X → Element) (xs : List X) (i : ℕ) (x : X) 
     → x ≡ get_or xs i x → outline_child piece ≡ the.Element (f x) → more ≡ pieces ++ piece ∷ []
     → map outline_child pieces ≡ as_children (map f (take i xs)) → map outline_child more ≡ as_children (map f (take (i + 1) xs))
 put_next f xs i x pieces more piece low there is pushed before =
-    put pieces more piece (the.Element (f x)) is pushed ∙ ap (λ cs. cs ++ the.Element (f x) ∷ []) before
+    piece_put_after pieces more piece (the.Element (f x)) is pushed ∙ ap (λ cs. cs ++ the.Element (f x) ∷ []) before
     ∙ sym (one_more f xs i x low there)

@@ -21,7 +21,7 @@ use Rattle.ifmap_changes.specs.ifmap_session.Sessions.{is_named}
 use Rattle.ifmap_changes.specs.ifmap_session.laws.TextLaws.{text_itself}
 use Rattle.ifmap_changes.specs.ifmap_standing.declared.standing.Standing.{Standing}
 use Rattle.ifmap_subscribes.proofs.OfNames.{one_fewer}
-use Rattle.ifmap_subscribes.proofs.Renamed.{IsTold, added, begun_more, noted, rename_more}
+use Rattle.ifmap_subscribes.proofs.Renamed.{IsTold, added, begun_more, room_is_noted, rename_more}
 use Rattle.ifmap_subscribes.specs.Readying.{AreCounted, AreReadied, CanStand, IsAdded, IsNoted, IsSmall, most_ops, told_after}
 use Rattle.ifmap_subscribes.specs.Renamings.{IsNameNow, IsOfSession, starts_by, rename, rename_all}
 use Rattle.ifmap_subscribes.specs.declared.names.NameNow.{NameNow}
@@ -50,7 +50,7 @@ module _ {serial : ℕ} {t : Told} {old mid : Readying} {name : List ℕ} {now :
   mid_now = subst (λ u. IsNameNow serial name u now) (sym mid_told) h.is
 
   mid_counted : AreCounted serial t mid
-  mid_counted = noted serial t old mid h.counted name now h.noted h.is
+  mid_counted = room_is_noted serial t old mid h.counted name now h.noted h.is
 
   pub can_add : CanAdd now mid
   can_add =

@@ -1,7 +1,7 @@
 -- What one renaming more makes of what is to be told and of the subscriptions, and of what is kept of it.
 -- First: renamings in a row, and one more. Then: the subscriptions after a renaming, by the one that is to stand. Then: the queue after
 -- it, by the item that is to be told. Last: what is kept is so still where one renaming more is added (`added`), and where only what is
--- so of a name is noted (`noted`).
+-- so of a name is noted (`room_is_noted`).
 use Rattle.std.proofs.Common.{◌≡◌, ◌≢◌, refl, sym, ◌∙◌, ap, subst, ℕ, ◌+◌, ◌-◌, ◌^◌, ◌<◌, ◌≤◌, true, false, not, cond, List, [], ◌∷◌, ◌++◌, length, Option, None, Some, is_some, inl, inr, arith, append-nil, length-append, option_to_list}
 use Rattle.std.proofs.lemmas.Bool.{cases_Bool, false_from_ne_true}
 use Rattle.std.proofs.lemmas.List.Concat.{flat_map-append}
@@ -237,8 +237,8 @@ module _ (serial : ℕ) (t : Told) (old new : Readying) (c : AreCounted serial t
           | inr one ↦ let there : None ≡ Some now = sym e ∙ one.1 in cc
         ]
 
-    pub noted : AreCounted serial t new
-    noted =
+    pub room_is_noted : AreCounted serial t new
+    room_is_noted =
         let long = ap length a.made in
         record {
           rising = subst (λ u. IsStrictlySortedBy standing_order u.standing) (sym same_told) c.rising;

@@ -2,14 +2,14 @@
 use Rattle.std.proofs.Common.{ap, subst, Err}
 use Rattle.ifmap_client_script.specs.Ends.{source_and_ports}
 use Rattle.ifmap_client_script.specs.Turns.{Scripting, IsScriptTurn}
-use Rattle.ifmap_client_script.proofs.Turning.{turned, turned_end, turned_err}
+use Rattle.ifmap_client_script.proofs.Turning.{turn_does_next, turned_end, turned_err}
 use Rattle.ifmap_client_script.proofs.scripts.Script.turn.Goals as goal
 
 pub returns-in-Ok-Some-clause-turns : goal.returns-in-Ok-Some-clause-turns
 returns-in-Ok-Some-clause-turns g c =
     let s = c.self.inside in
     rw (← c.self.view_is)
-    (turned c.args.caller.now (g.S.Source.left c.args.source.now) (g.S.Source.left c.next_line.new.source)
+    (turn_does_next c.args.caller.now (g.S.Source.left c.args.source.now) (g.S.Source.left c.next_line.new.source)
     (g.S.Source.faults c.args.source.now) (g.S.Source.faults c.next_line.new.source) (g.O.Outlets.seen c.args.outlets.now)
     (g.O.Outlets.seen c.do_next.new.outlets) (record { client = s.client; pending = s.lines; offset = s.offset; line = s.line })
     c.do_next.new.self c.next_line.new.lines c.in-Ok-Some.next c.lines_mean_one_thing.ensures

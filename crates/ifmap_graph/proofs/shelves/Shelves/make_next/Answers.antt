@@ -3,7 +3,7 @@ use Rattle.slab.specs.Slab.{get}
 use Rattle.ifmap_plans.specs.Lists.{next_on}
 use Rattle.ifmap_graph.specs.Shelved.{list_at}
 use Rattle.ifmap_graph.specs.Sides.{list_now}
-use Rattle.ifmap_graph.proofs.Finding.{found}
+use Rattle.ifmap_graph.proofs.Finding.{entry_stores}
 use Rattle.ifmap_graph.proofs.Again.{written_again}
 use Rattle.ifmap_graph.proofs.Writes.{slot_live}
 use Rattle.ifmap_graph.proofs.shelves.Shelves.make_next.Goals as goal
@@ -22,7 +22,7 @@ returns-clause-next c =
     in subst (λ rows. IfOk c.make_next_at.result
     (λ list. list.value ≡ next_on c.args.change.now.removed c.args.change.now.added rows))
     (sym (ap (list_at list_now) s.1)
-    ∙ found (λ at. list_at list_now (get c.args.self.now.slots at)) c.args.change.now.item c.args.self.now.places.entries
+    ∙ entry_stores (λ at. list_at list_now (get c.args.self.now.slots at)) c.args.change.now.item c.args.self.now.places.entries
     c.index-at.result.now c.requires.shelved.rising c.index-at.ensures)
     (c.make_next_at.ensures.next s.0 s.1)
 

@@ -2,7 +2,7 @@ use Rattle.std.proofs.Common.{IsSome, ap, sym, ◌∙◌}
 use Rattle.slab.specs.Slab.{get}
 use Rattle.ifmap_graph.specs.Shelved.{list_at}
 use Rattle.ifmap_graph.specs.Sides.{list_now}
-use Rattle.ifmap_graph.proofs.Finding.{found, absent, live_at}
+use Rattle.ifmap_graph.proofs.Finding.{entry_stores, unlisted_empty, live_at}
 use Rattle.ifmap_graph.proofs.shelves.Shelves.rows_at.Goals as goal
 
 pub index-requires : goal.index-requires
@@ -12,10 +12,10 @@ index-requires c = live_at (λ n. IsSome (get c.args.self.now.slots n)) _ c.args
 pub returns-in-Some : goal.returns-in-Some
 returns-in-Some c =
     c.list_now.ensures ∙ ap (list_at list_now) (sym c.index.ensures)
-    ∙ found (λ at. list_at list_now (get c.args.self.now.slots at)) c.args.item.now c.args.self.now.places.entries c.in-Some.at.now
+    ∙ entry_stores (λ at. list_at list_now (get c.args.self.now.slots at)) c.args.item.now c.args.self.now.places.entries c.in-Some.at.now
     c.requires.rising
     (sym c.in-Some.ensures.value)
 
 pub returns-in-None : goal.returns-in-None
-returns-in-None c = absent (λ at. list_at list_now (get c.args.self.now.slots at)) c.args.item.now c.args.self.now.places.entries
+returns-in-None c = unlisted_empty (λ at. list_at list_now (get c.args.self.now.slots at)) c.args.item.now c.args.self.now.places.entries
     (sym c.in-None.ensures.value)
