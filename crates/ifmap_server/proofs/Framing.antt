@@ -1,7 +1,7 @@
 -- From the first line of what is pending to the frame that begins there, or to none.
 -- Where a frame begins, the line that is there is that of its header (`its_header`, by `text_before`), so it ends where the
 -- header says. From this: no frame begins where no line is, where the line is no header, where the frame is too long or cut;
--- a whole one does where its bytes are there (`whole`). At the end: what is told of a fault, and which reads are due.
+-- a whole one does where its bytes are there (`frame_is_whole`). At the end: what is told of a fault, and which reads are due.
 use Rattle.std.proofs.Common.{◌≡◌, ◌≢◌, ℕ, ◌+◌, ◌-◌, ◌<◌, ◌≤◌, List, [], ◌∷◌, ◌++◌, length, length-append, take, drop, replicate, Option, None, Some, IfSome, Err, inl, inr, arith, append-nil, append_assoc, refl, sym, ap, subst, ◌∙◌}
 use Rattle.std.proofs.lemmas.List.{drop_all, length-drop, length-replicate, length-take-le, take-append-le}
 use Rattle.std.specs.Io.KnownBytes.{IsAtEnd}
@@ -163,9 +163,9 @@ module _ (offset : ℕ) (left_old left : Option (List ℕ)) (mid new : List ℕ)
       let m = length-append mid took.got in
       (long_in_front new rest (omega arith), subst (BeginsNone offset) (sym same) (short_none short))
 
-  pub whole : place + 1 + h.size ≤ length new → offset + (place + 1 + h.size) ≤ longest_script
+  pub frame_is_whole : place + 1 + h.size ≤ length new → offset + (place + 1 + h.size) ≤ longest_script
       → IsFramed offset new (record { header = h; start = place + 1; end = place + 1 + h.size })
-  whole within ends =
+  frame_is_whole within ends =
       let early = is.first.within in
       let line : IsHeaderLineEnd new place = subst (λ (b : List ℕ). IsHeaderLineEnd b place) (sym took.grown)
       (line_more mid took.got place is) in
@@ -196,7 +196,7 @@ module _ (offset : ℕ) (left_old left : Option (List ℕ)) (mid new : List ℕ)
         consumed = tt;
         grown = ap (λ (b : List ℕ). b ++ missing) took.grown ∙ append_assoc mid took.got missing;
       } in
-      let w = whole offset None None mid (new ++ missing) place h more is header (omega arith) ends in
+      let w = frame_is_whole offset None None mid (new ++ missing) place h more is header (omega arith) ends in
       record {
         frame = frame_within (record { header = h; start = place + 1; end = place + 1 + h.size }) (new ++ missing) unread;
         more = missing;

@@ -2,7 +2,7 @@
 use Rattle.std.proofs.Common.{arith, inl, inr}
 use Rattle.std.proofs.lemmas.Result.{err_from_is_err_and}
 use Rattle.ifmap_lemmas.specs.Results.{same_error}
-use Rattle.ifmap_server.proofs.Framing.{cut_fault, header_fault, line_fault, long_fault, short_awaits, whole}
+use Rattle.ifmap_server.proofs.Framing.{cut_fault, frame_is_whole, header_fault, line_fault, long_fault, short_awaits}
 use Rattle.ifmap_server.proofs.Taking.{read_took}
 use Rattle.ifmap_server.proofs.replaying.next_frame.Goals as goal
 use Rattle.ifmap_server.proofs.replaying.next_frame.Goals.{then-end-offset-via-then-end-offset, then-end-offset-via-else-end-offset+in_ok-await_bytes+then-not-branch}
@@ -54,7 +54,7 @@ returns-then-end-offset-clause-fault g c =
 pub returns-clause-frame : goal.returns-clause-frame
 returns-clause-frame g c =
     let header = rw c.in-Some-2.is at c.in_ok-header.ensures.found in
-    whole _ _ _ _ _ c.in-Some.line c.in-Some-2.header c.in_ok-await_bytes.ensures.takes.taken (rw c.in-Some.is at c.in_ok-line.ensures.line)
-    (rw c.pending_bytes.ensures at header)
+    frame_is_whole _ _ _ _ _ c.in-Some.line c.in-Some-2.header c.in_ok-await_bytes.ensures.takes.taken
+    (rw c.in-Some.is at c.in_ok-line.ensures.line) (rw c.pending_bytes.ensures at header)
     (rw c.if-not-branch.false at c.in_ok-await_bytes.ensures.enough) (let offset = c.requires in let ends = c.if-end-offset.false in
     omega arith)
