@@ -1,4 +1,4 @@
--- Lists beside flags: what more flags leave (`kept_marked`, `kept_made`), and what is made of each that stands where none is
+-- Lists beside flags: what more flags leave (`kept_flagged`, `kept_made`), and what is made of each that stands where none is
 -- (`queued_made`, `skip_made`).
 use Rattle.std.proofs.Common.{◌≡◌, inl, inr, ℕ, zero, suc, ◌+◌, Bool, true, false, not, ◌||◌, Some, List, [], ◌∷◌, ◌++◌, map, flat_map, slice_get, refl, ap, ◌∙◌, subst}
 use Rattle.std.proofs.lemmas.Bool.{cases_Bool}
@@ -9,14 +9,14 @@ use Rattle.ifmap_tellings.specs.Tellings.{kept_items}
 -- ---- what stands where no flag is
 
 -- flags more where a test passes
-pub kept_marked : {X : Type 0} (test : X → Bool) (gone : List Bool) (xs : List X)
+pub kept_flagged : {X : Type 0} (test : X → Bool) (gone : List Bool) (xs : List X)
     → kept_items (map (λ (p : Bool × X). p.0 || test p.1) (zip gone xs)) xs ≡ filter (λ x. not (test x)) (kept_items gone xs)
-kept_marked test [] xs = refl
-kept_marked test (g ∷ gone) [] = refl
-kept_marked test (true ∷ gone) (x ∷ xs) = kept_marked test gone xs
-kept_marked test (false ∷ gone) (x ∷ xs) = elim (cases_Bool (test x)) [
-  | inl t ↦ rw t (kept_marked test gone xs)
-  | inr t ↦ rw t (ap (λ ys. x ∷ ys) (kept_marked test gone xs))
+kept_flagged test [] xs = refl
+kept_flagged test (g ∷ gone) [] = refl
+kept_flagged test (true ∷ gone) (x ∷ xs) = kept_flagged test gone xs
+kept_flagged test (false ∷ gone) (x ∷ xs) = elim (cases_Bool (test x)) [
+  | inl t ↦ rw t (kept_flagged test gone xs)
+  | inr t ↦ rw t (ap (λ ys. x ∷ ys) (kept_flagged test gone xs))
 ]
 
 -- ---- what is made of each, by its flag

@@ -1,4 +1,4 @@
--- What publishes and retractions meet: subscriptions that are marked (`ready_marked`, `marked_state`), a change that can stay as it is
+-- What publishes and retractions meet: subscriptions that are flagged (`flagged_ready`, `flagged_state`), a change that can stay as it is
 -- (`can_settle`), and a plan that takes away (`taken_canon`, `taken_told`, `taken_within`, `found_within`).
 use Rattle.std.proofs.Common.{◌≡◌, ◌≢◌, ◌∙◌, ℕ, true, Some, List, length, map, slice_get, ap, sym, subst, inl, arith}
 use Rattle.std.proofs.lemmas.Result.{on_ok_weaker}
@@ -31,10 +31,10 @@ abbrev pub author_of : ℕ → Asking → Authorship
 author_of serial a = record { client = a.client; serial = serial; moment = a.moment }
 
 -- all is ready still where more subscriptions are gone
-pub ready_marked : (a : Asking) (parts : Parts) (old new : Pending) → length new.gone.items ≡ length parts.standing.items
+pub flagged_ready : (a : Asking) (parts : Parts) (old new : Pending) → length new.gone.items ≡ length parts.standing.items
     → ((i : ℕ) → slice_get old.gone.items i ≡ Some true → slice_get new.gone.items i ≡ Some true) → new.tellings ≡ old.tellings
     → IsSoundSoFar a parts old → IsSoundSoFar a parts new
-ready_marked a parts old new flags stay same r =
+flagged_ready a parts old new flags stay same r =
     let standing = parts.standing.items in
     record {
       ended = r.ended;
@@ -51,7 +51,7 @@ ready_marked a parts old new flags stay same r =
     }
 
 -- and the state is that without the subscriptions that are gone
-pub marked_state : (serials : List ℕ) (a : Asking) (parts : Parts) (old new : Pending)
+pub flagged_state : (serials : List ℕ) (a : Asking) (parts : Parts) (old new : Pending)
     → map standing_of (kept_items new.gone.items parts.standing.items)
     ≡ without_standing serials (map standing_of (kept_items old.gone.items parts.standing.items)) → new.tellings ≡ old.tellings
     → state_now a parts new
@@ -59,7 +59,7 @@ pub marked_state : (serials : List ℕ) (a : Asking) (parts : Parts) (old new : 
       standing = without_standing serials
           (map standing_of (kept_items old.gone.items parts.standing.items));
     }
-marked_state serials a parts old new gone same = λ k. record {
+flagged_state serials a parts old new gone same = λ k. record {
   moment = a.moment;
   ttl = a.ttl;
   counter = parts.sessions.counter;

@@ -38,7 +38,7 @@ use Rattle.ifmap_changes.specs.declared.parts.Parts.{Parts}
 use Rattle.ifmap_changes.specs.Between.{Asking, IsSoundSoFar, IsWithinLimit, sessions_left}
 use Rattle.ifmap_changes.specs.Changes.{IsTold, sight_next}
 use Rattle.ifmap_changes.proofs.Settling.{same_ordered, same_shown}
-use Rattle.ifmap_changes.proofs.Flags.{kept_made, kept_marked, queued_made, skip_made}
+use Rattle.ifmap_changes.proofs.Flags.{kept_made, kept_flagged, queued_made, skip_made}
 use Rattle.ifmap_tellings.specs.ifmap_session.laws.TableLaws.{left_live}
 use Rattle.ifmap_tellings.specs.ToldLaws.{told_serial, map_kept}
 
@@ -189,7 +189,7 @@ module _ {a : Asking} {old : Parts} {before : Pending} {notes : List Note} {stan
       ≡ filter (λ y. not (alone y.serial)) (filter (λ y. not (is_too_big next y.search)) those)
   stand alone after is =
       ap (λ g. map standing_of (kept_items g stand_now)) is
-      ∙ ap (map standing_of) (kept_marked (λ (x : Standing). alone x.serial) (flags_since gone_flags news) stand_now)
+      ∙ ap (map standing_of) (kept_flagged (λ (x : Standing). alone x.serial) (flags_since gone_flags news) stand_now)
       ∙ map_filter standing_of (λ y. not (alone y.serial)) (kept_items (flags_since gone_flags news) stand_now)
       ∙ ap (filter (λ y. not (alone y.serial)))
       (map_kept standing_of (flags_since gone_flags news) stand_now

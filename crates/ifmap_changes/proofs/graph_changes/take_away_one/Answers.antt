@@ -2,7 +2,7 @@ use Rattle.std.proofs.Common.{◌≡◌, ◌≢◌, ℕ, List, [], ◌∷◌, �
 use Rattle.std.proofs.lemmas.Result.{on_ok_weaker}
 use Rattle.ifmap_changes.specs.Between.{state_now}
 use Rattle.ifmap_changes.proofs.Spending.{ended_none, ended_within}
-use Rattle.ifmap_changes.proofs.Taken.{marked_state, ready_marked}
+use Rattle.ifmap_changes.proofs.Taken.{flagged_state, flagged_ready}
 use Rattle.ifmap_changes.proofs.graph_changes.take_away_one.Given as given
 use Rattle.ifmap_changes.proofs.graph_changes.take_away_one.Goals as goal
 use Rattle.ifmap_changes.proofs.graph_changes.take_away_one.Goals.{After-take_away}
@@ -32,7 +32,7 @@ serials g c = c.in_ok-push.ensures.items ∙ ap (λ (l : List ℕ). l ++ c.args.
 pub take_away-requires-clause-ready : goal.take_away-requires-clause-ready
 take_away-requires-clause-ready g c =
     let marked = c.flag_session.new.pending in
-    ready_marked c.args.asking.now c.args.parts.now c.args.pending.now marked
+    flagged_ready c.args.asking.now c.args.parts.now c.args.pending.now marked
     (subst (λ (l : List Standing). length marked.gone.items ≡ length l) c.deref.ensures.value c.flag_session.ensures.flags)
     c.flag_session.ensures.stay c.flag_session.ensures.tellings c.requires.ready
 
@@ -45,7 +45,7 @@ returns-clause-told g c =
     ∙ ap (λ (l : List ℕ). overflow (tell (retract (Sessions l) (rows_now c.args.parts.now.graph)) []
     (state_now c.args.asking.now c.args.parts.now marked))) (serials g place)
     ∙ ap (λ (s : State). overflow (tell rows [] s))
-    (marked_state (c.args.serial ∷ []) c.args.asking.now c.args.parts.now c.args.pending.now marked (left_without_session g place)
+    (flagged_state (c.args.serial ∷ []) c.args.asking.now c.args.parts.now c.args.pending.now marked (left_without_session g place)
     c.flag_session.ensures.tellings)) c.take_away.ensures.told
 
 pub returns-clause-bare : goal.returns-clause-bare
