@@ -32,8 +32,8 @@ loop-rest-smaller c =
 pub returns : goal.returns
 returns c =
     ends_parse c.args.text.now c.args.scope.now c.utf8.text (filter_state c.loop-rest.standing) c.loop-rest.rest.now c.loop-rest.invariant.0
-    c.loop-rest.invariant.1 ((Decides-eqb (length c.loop-rest.rest.now) 0).0 (sym c.is_empty.ensures ∙ c.loop-rest-test.false)) (length c.args.text.now) refl
-    c.whole_filter.result c.whole_filter.ensures
+    c.loop-rest.invariant.1 ((Decides-eqb (length c.loop-rest.rest.now) 0).0 (sym c.is_empty.ensures ∙ c.loop-rest-test.false))
+    (length c.args.text.now) refl c.whole_filter.result c.whole_filter.ensures
 
 pub returns-in_err-left : goal.returns-in_err-left
 returns-in_err-left c =

@@ -30,5 +30,5 @@ returns-else-is_empty-clause-takes g c =
     let before = c.line.invariant in
     let all = takes_after g.S.Source.left g.S.Source.faults (c.args.source.now, c.args.input.now) (c.line.source, c.line.input)
     (c.take_more.new.source, c.take_more.new.input) c.in_ok-take_more.field-0 before.0 before.1 c.in_ok-take_more.ensures.takes in
-    takes_fault g.S.Source.left g.S.Source.faults (c.args.source.now, c.args.input.now) (c.take_more.new.source, c.take_more.new.input) all.0
-    all.1
+    takes_fault g.S.Source.left g.S.Source.faults (c.args.source.now, c.args.input.now) (c.take_more.new.source, c.take_more.new.input)
+    all.0 all.1
