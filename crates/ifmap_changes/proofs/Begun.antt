@@ -59,14 +59,14 @@ module _ (ready : Ready) (wanted : Plan) (old : Parts) (mid : GraphInside) (begu
   abbrev pub begun_parts : Parts
   begun_parts = record { graph = mid; sessions = old.sessions; standing = old.standing }
 
-  pub shared : (v : ℕ) (a b : Identifier) → key_at old.graph.names v ≡ Some a → key_at mid.names v ≡ Some b → b ≡ a
-  shared v a b e f = same_Some b a (sym f ∙ begun.numbers v a e)
+  pub one_identifier : (v : ℕ) (a b : Identifier) → key_at old.graph.names v ≡ Some a → key_at mid.names v ≡ Some b → b ≡ a
+  one_identifier v a b e f = same_Some b a (sym f ∙ begun.numbers v a e)
 
   pub ready_begun : SameLinks → IsSteady old.graph old.standing.items → (a : Asking) (pending : Pending) → IsSoundSoFar a old pending
       → IsSoundSoFar a begun_parts pending
   ready_begun links steady a pending r =
       ready_after a old begun_parts pending refl (keep_searches old.standing.items old.standing.items (kept_itself old.standing.items))
-      (λ i x e f. links (sight_now old.graph) (sight_now mid) x.subscription begun.before begun.now begun.rows begun.links shared
+      (λ i x e f. links (sight_now old.graph) (sight_now mid) x.subscription begun.before begun.now begun.rows begun.links one_identifier
       (begun.numbers x.subscription.region.start x.subscription.search.start
       (all_got (HasStartNumber old.graph) old.standing.items i x steady.numbered e)) (r.kept i x e f)) r
 

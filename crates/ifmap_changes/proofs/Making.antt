@@ -33,7 +33,7 @@ use Rattle.ifmap_tellings.specs.Tellings.{AreWide, HasSameSessions, IsWide, kept
 use Rattle.ifmap_changes.specs.declared.parts.Parts.{Parts}
 use Rattle.ifmap_changes.specs.Between.{AreKept, AreOrdered, AreTurnedWith, AreWithinLimits, Asking, CanEnd, HasNoSubscriptions, IsSoundSoFar, IsSteady, IsWithinLimit, sessions_left, sight_now, state_now, starts_of}
 use Rattle.ifmap_changes.specs.Changes.{CanTakeBack, IsTold, sight_next, with_next}
-use Rattle.ifmap_changes.proofs.Begun.{IsOutAndTold, ready_begun, same_so_far, shared}
+use Rattle.ifmap_changes.proofs.Begun.{IsOutAndTold, ready_begun, same_so_far, one_identifier}
 use Rattle.ifmap_changes.proofs.Starts.{numbered_beside, numbered_more, own_beside}
 use Rattle.ifmap_changes.proofs.OneGraph.{one_graph}
 use Rattle.ifmap_changes.proofs.Settling.{same_ordered}
@@ -245,7 +245,7 @@ module _ {ready : Ready} {wanted : Plan} {old mid to : Parts} (out : IsOutAndTol
           };
           rows = rows;
           links = λ v. forgets_wanted.links v ∙ begun.links v;
-          numbers = λ v x y e f. shared ready wanted old mid.graph begun v x y e (forgets_wanted.numbers v y f);
+          numbers = λ v x y e f. one_identifier ready wanted old mid.graph begun v x y e (forgets_wanted.numbers v y f);
           lean = λ rest l. forgets_wanted.lean rest (begun.lean rest l);
           standing = kept;
           sessions = sessions out;

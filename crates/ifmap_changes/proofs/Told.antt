@@ -1,6 +1,6 @@
 -- Subscriptions are told of a change that is out, and their news are queued: what is pending then is what the machine tells.
 -- First what a telling leaves of a session (`told_serial`, `told_limit`, `overflow_within`), and that a session which is not left is told
--- nothing (`within_all`). Then, of subscriptions that were told (`HasNews`): what is queued for a session (`queued`), which stand
+-- nothing (`within_all`). Then, of subscriptions that were told (`HasNews`): what is queued for a session (`queued_is_told`), which stand
 -- (`stand`), what the sessions have to tell (`tell_each`), whose queue is overrun (`overrun_one`), and all of it together (`is_told`).
 use Rattle.std.proofs.Common.{◌≡◌, ◌≢◌, inl, inr, ℕ, ◌≤◌, ◌==◌, nat_lt, Bool, true, false, not, ◌||◌, ◌&&◌, Option, Some, None, List, [], ◌∷◌, length, map, flat_map, slice_get, refl, ap, ◌∙◌, sym, subst, arith}
 use Rattle.ifmap_tellings.specs.KeptPlaces.{kept_all}
@@ -172,8 +172,8 @@ module _ {a : Asking} {old : Parts} {before : Pending} {notes : List Note} {stan
   live_now = (same_ordered old.sessions.live old.standing.items stand_now known.same known.ready.ordered).live
 
   -- what is queued for a session
-  pub queued : (n : ℕ) → items_for n stand_now news ≡ told_in_session rows next notes those n
-  queued n =
+  pub queued_is_told : (n : ℕ) → items_for n stand_now news ≡ told_in_session rows next notes those n
+  queued_is_told n =
       ap (items_for n stand_now) known.are_news
       ∙ zip_mapped standing_of (λ y. y.serial == n) (λ (one : News). one.items) stand_now (news_of_each rows next notes gone_flags ys)
       ∙ ap (λ zs. flat_map (λ (p : machine.Standing × News). p.1.items)
@@ -245,7 +245,7 @@ module _ {a : Asking} {old : Parts} {before : Pending} {notes : List Note} {stan
         (all_weaker (λ s. tell_by after.tellings s
         ≡ overflow_session (tell_session (items_for s.serial stand_now news) (tell_by before.tellings s)))
         (λ s. tell_by after.tellings s ≡ overflow_session (told_one s))
-        (λ s e. e ∙ ap (λ q. overflow_session (tell_session q (tell_by before.tellings s))) (queued s.serial)) old.sessions.live
+        (λ s e. e ∙ ap (λ q. overflow_session (tell_session q (tell_by before.tellings s))) (queued_is_told s.serial)) old.sessions.live
         (maps_alike (tell_by after.tellings)
         (λ s. overflow_session (tell_session (items_for s.serial stand_now news) (tell_by before.tellings s))) old.sessions.live told)))
         ∙ sym (map_twice told_one overflow_session lives)
@@ -260,7 +260,7 @@ module _ {a : Asking} {old : Parts} {before : Pending} {notes : List Note} {stan
         let is : s.serial ≡ n = eqb-true s.serial n hit
         in let one : is_alone (get nat_cmp before.tellings s.serial) ≡ false = ap (λ m. is_alone (get nat_cmp before.tellings m)) is ∙ none
         in let all = overrun s (filter_has (λ (t : Session). stays_in a t.serial) old.sessions.live s there).0
-        in ap (λ q. is_overfull (tell_session q (tell_by before.tellings s))) (sym (queued s.serial))
+        in ap (λ q. is_overfull (tell_session q (tell_by before.tellings s))) (sym (queued_is_told s.serial))
         ∙ ap (λ b. b || is_overfull (tell_session (items_for s.serial stand_now news) (tell_by before.tellings s))) (sym one)
         ∙ sym all ∙ ap is_alone_at is
 
@@ -306,7 +306,7 @@ module _ {a : Asking} {old : Parts} {before : Pending} {notes : List Note} {stan
         by (Some u) was = (known.ready.can_tell n u was).live
         by None was =
             let some = brought n (subst IsSome (sym is) refl) was
-            in let one = some_joined (told_to rows next notes) (λ (y : machine.Standing). y.serial == n) those (λ e. some (queued n ∙ e))
+            in let one = some_joined (told_to rows next notes) (λ (y : machine.Standing). y.serial == n) those (λ e. some (queued_is_told n ∙ e))
             in subst (λ m. IsLive m lives) (eqb-true one.0.serial n one.2)
             (all_has (λ (z : machine.Standing). IsLive z.serial lives) those live_those one.0 one.1)
 

@@ -1,9 +1,9 @@
 -- A script turn by turn, from its beginning to each way to end.
 -- 1. Counts of faults stay or rise over turns in a row (`later_ends`), and what has failed since a turn has failed since the beginning.
 -- 2. `Reached` holds where nothing was done yet (`begin`); what is promised where nothing was (`not_begun`).
--- 3. It holds after each line that was carried out (`next`).
--- 4. Each way to end leads from it to what the script promises: `done`, and the others together in `ends_with`.
--- 5. Each turn that goes on brings the end nearer (`nearer`).
+-- 3. It holds after each line that was carried out (`reaches_next`).
+-- 4. Each way to end leads from it to what the script promises: `promises_done`, and the others together in `ends_with`.
+-- 5. Each turn that goes on brings the end nearer (`comes_nearer`).
 use Rattle.std.proofs.Common.{◌≡◌, ◌⊎◌, inl, inr, refl, ap, ◌∙◌, sym, subst, ℕ, ◌+◌, ◌-◌, ◌<◌, true, false, List, [], ◌∷◌, ◌++◌, length, length-append, arith}
 use Rattle.std.specs.Prelude.{Option, Some, Err}
 use Rattle.std.proofs.KnownBytes.{Appends-nil, Consumes-nil, Consumes-trans}
@@ -155,8 +155,8 @@ module _ (caller : Caller) (before now after : SourceAndPorts) (old : Scripting)
   did_still kept = subst (λ (p : Ports). Did caller before.ports p nothing_known r.deeds) (sym kept) r.did
 
   -- one more line
-  pub next : (new : Scripting) → IsLaterInRun now after → TurnsOn caller now after old new → Reached caller before after new
-  next new later t =
+  pub reaches_next : (new : Scripting) → IsLaterInRun now after → TurnsOn caller now after old new → Reached caller before after new
+  reaches_next new later t =
       let d = t.carried.deed in
       record {
         deeds = r.deeds ++ d ∷ [];
@@ -173,8 +173,8 @@ module _ (caller : Caller) (before now after : SourceAndPorts) (old : Scripting)
 
   -- ---- the ways to end
 
-  pub done : IsOver caller now after old → ScriptPromises caller before after outcome.Done
-  done t =
+  pub promises_done : IsOver caller now after old → ScriptPromises caller before after outcome.Done
+  promises_done t =
       let f = fetched_more (record { bytes = []; ended = true }) t.fetched in
       record {
         deeds = r.deeds;
@@ -281,9 +281,9 @@ module _ (caller : Caller) (before now after : SourceAndPorts) (old : Scripting)
       ∙ ap (λ (n : ℕ). script_outcome e n) same)) (ends_by new e t)
 
 -- the next line begins later
-pub nearer : (caller : Caller) (now after : SourceAndPorts) (old new : Scripting) → TurnsOn caller now after old new
+pub comes_nearer : (caller : Caller) (now after : SourceAndPorts) (old new : Scripting) → TurnsOn caller now after old new
     → longest_script + 1 - new.offset < longest_script + 1 - old.offset
-nearer caller now after old new t =
+comes_nearer caller now after old new t =
     let a = t.takes.begins.ends in
     let b = t.offset in
     omega arith

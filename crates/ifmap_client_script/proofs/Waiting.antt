@@ -201,17 +201,17 @@ awaits_err left_old left_new offset old new failure.LinkFault g = absurd g
 awaits_err left_old left_new offset old new failure.LinkEnded g = absurd g
 awaits_err left_old left_new offset old new failure.BadReply g = absurd g
 
-pub looked : (left_old left_new : Option (List ℕ)) (offset : ℕ) (old new : TakenBytes) (r : Result (Option ℕ) ScriptFailure)
+pub waits_for_line : (left_old left_new : Option (List ℕ)) (offset : ℕ) (old new : TakenBytes) (r : Result (Option ℕ) ScriptFailure)
     → Fetches left_old left_new old new → LooksForLine offset new r → WaitsForLine left_old left_new offset old new r
-looked left_old left_new offset old new (Ok (Some place)) f l = (f, l.0, l.1)
-looked left_old left_new offset old new (Ok None) f l = (f, l)
-looked left_old left_new offset old new (Err failure.BadLine) f l = (f, l)
-looked left_old left_new offset old new (Err failure.ReadFault) f l = absurd l
-looked left_old left_new offset old new (Err failure.NoMemory) f l = absurd l
-looked left_old left_new offset old new (Err failure.WriteFault) f l = absurd l
-looked left_old left_new offset old new (Err failure.LinkFault) f l = absurd l
-looked left_old left_new offset old new (Err failure.LinkEnded) f l = absurd l
-looked left_old left_new offset old new (Err failure.BadReply) f l = absurd l
+waits_for_line left_old left_new offset old new (Ok (Some place)) f l = (f, l.0, l.1)
+waits_for_line left_old left_new offset old new (Ok None) f l = (f, l)
+waits_for_line left_old left_new offset old new (Err failure.BadLine) f l = (f, l)
+waits_for_line left_old left_new offset old new (Err failure.ReadFault) f l = absurd l
+waits_for_line left_old left_new offset old new (Err failure.NoMemory) f l = absurd l
+waits_for_line left_old left_new offset old new (Err failure.WriteFault) f l = absurd l
+waits_for_line left_old left_new offset old new (Err failure.LinkFault) f l = absurd l
+waits_for_line left_old left_new offset old new (Err failure.LinkEnded) f l = absurd l
+waits_for_line left_old left_new offset old new (Err failure.BadReply) f l = absurd l
 
 abbrev IsFault : Result (Option ℕ) ScriptFailure → Type 0
 IsFault r = r ≡ Err failure.ReadFault

@@ -60,7 +60,7 @@ impl Lines {
 
     /// Waits for the newline of the next line, and answers its place; `None` where the source is at
     /// its end and nothing is pending. The line begins at that offset.
-    #[tactic(auto, using(crate::proofs::Waiting::awaits_err, crate::proofs::Waiting::looked, crate::proofs::Waiting::looks_no_fault))]
+    #[tactic(auto, using(crate::proofs::Waiting::awaits_err, crate::proofs::Waiting::waits_for_line, crate::proofs::Waiting::looks_no_fault))]
     pub fn await_line<S: Source>(
         &mut self,
         source: &mut S,

@@ -180,19 +180,19 @@ module _ (state : State) (event : Event) where
   held_on_poll (Request (the_request.PurgePublisher id publisher)) =
       neither _ _ (purge_other Held held_no_reply id publisher) (λ h. let bad = h.1 in cc)
 
-  pub heard : (ask : Ask) → ((step_ask state event ask).1 ≡ Heard) ↔ IsLoss ask
-  heard (Lost id) = ((λ h. (id, refl)), (λ h. lost_heard state client (session_in state id)))
-  heard (Request (the_request.NewSession limit)) =
+  pub heard_where_lost : (ask : Ask) → ((step_ask state event ask).1 ≡ Heard) ↔ IsLoss ask
+  heard_where_lost (Lost id) = ((λ h. (id, refl)), (λ h. lost_heard state client (session_in state id)))
+  heard_where_lost (Request (the_request.NewSession limit)) =
       neither _ _ (new_not state client Heard heard_no_reply event.random limit) (λ h. let bad = h.1 in cc)
-  heard (Request (the_request.RenewSession id)) = neither _ _ (renew_other Heard heard_no_reply id) (λ h. let bad = h.1 in cc)
-  heard (Request (the_request.EndSession id)) = neither _ _ (end_other Heard heard_no_reply id) (λ h. let bad = h.1 in cc)
-  heard (Request (the_request.Publish id ops)) = neither _ _ (publish_other Heard heard_no_reply id ops) (λ h. let bad = h.1 in cc)
-  heard (Request (the_request.Search id asked)) = neither _ _ (search_other Heard heard_no_reply id asked) (λ h. let bad = h.1 in cc)
-  heard (Request (the_request.Subscribe id ops)) =
+  heard_where_lost (Request (the_request.RenewSession id)) = neither _ _ (renew_other Heard heard_no_reply id) (λ h. let bad = h.1 in cc)
+  heard_where_lost (Request (the_request.EndSession id)) = neither _ _ (end_other Heard heard_no_reply id) (λ h. let bad = h.1 in cc)
+  heard_where_lost (Request (the_request.Publish id ops)) = neither _ _ (publish_other Heard heard_no_reply id ops) (λ h. let bad = h.1 in cc)
+  heard_where_lost (Request (the_request.Search id asked)) = neither _ _ (search_other Heard heard_no_reply id asked) (λ h. let bad = h.1 in cc)
+  heard_where_lost (Request (the_request.Subscribe id ops)) =
       neither _ _ (subscribe_other Heard heard_no_reply id ops) (λ h. let bad = h.1 in cc)
-  heard (Request (the_request.Poll id)) =
+  heard_where_lost (Request (the_request.Poll id)) =
       neither _ _ (poll_not_heard state client event.again (session_in state id)) (λ h. let bad = h.1 in cc)
-  heard (Request (the_request.PurgePublisher id publisher)) =
+  heard_where_lost (Request (the_request.PurgePublisher id publisher)) =
       neither _ _ (purge_other Heard heard_no_reply id publisher) (λ h. let bad = h.1 in cc)
 
   pub told_end : (ask : Ask) → AsksPoll ask → ((step_ask state event ask).1 ≡ Reply Ended) ↔ PollsNoSession state event.again ask

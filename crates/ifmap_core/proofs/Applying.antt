@@ -187,15 +187,15 @@ not_live m (x ∷ live) l =
 pub other_lives : (n m : ℕ) (live : List Session) → IsLive n (without_sessions (m ∷ []) live) → n ≢ m
 other_lives n m live l = λ e. not_live m live (subst (λ k. IsLive k (without_sessions (m ∷ []) live)) e l)
 
-pub lived : (n : ℕ) (serials : List ℕ) (live : List Session) → IsLive n (without_sessions serials live) → IsLive n live
-lived n serials [] l = l
-lived n serials (x ∷ live) l =
+pub was_live : (n : ℕ) (serials : List ℕ) (live : List Session) → IsLive n (without_sessions serials live) → IsLive n live
+was_live n serials [] l = l
+was_live n serials (x ∷ live) l =
     elim (cases_Bool (x.serial == n)) [
       | inl hit ↦ rw hit refl
       | inr miss ↦
           elim (cases_Bool (is_left serials x)) [
-            | inl stays ↦ rw miss (lived n serials live (rw (stays, miss) at l))
-            | inr goes ↦ rw miss (lived n serials live (rw goes at l))
+            | inl stays ↦ rw miss (was_live n serials live (rw (stays, miss) at l))
+            | inr goes ↦ rw miss (was_live n serials live (rw goes at l))
           ]
     ]
 

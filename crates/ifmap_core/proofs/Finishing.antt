@@ -4,7 +4,7 @@
 -- 3. Then the parts are sound but for what is left to do (`would_be`).
 -- 4. What is left to do can be done on them (`can_apply`), a session begun and names changed
 --    included.
--- 5. The state they are in and the answer are those of the definition (`finished`).
+-- 5. The state they are in and the answer are those of the definition (`finish_answers`).
 use Rattle.std.proofs.Common.{◌≡◌, ◌≢◌, refl, sym, ◌∙◌, ap, subst, ℕ, ◌+◌, ◌<◌, ◌≤◌, ◌==◌, List, [], ◌∷◌, ◌++◌, length, map, Option, None, Some, arith}
 use Rattle.ifmap_subscribes.specs.ifmap_tellings.KeptPlaces.{fewer_kept, kept_all, rising_kept}
 use Rattle.std.proofs.lemmas.List.{length-map}
@@ -199,7 +199,7 @@ module _ (a : Asking) (old new : Parts) (pending : Pending) (ready : IsSoundSoFa
     can_apply (Poll serial again) can steady = live_now serial can
 
 -- the state that parts are in, and an answer
-pub finished : (a : Asking) (old new : Parts) (pending : Pending) (completion : Completion) (answer : Answer)
+pub finish_answers : (a : Asking) (old new : Parts) (pending : Pending) (completion : Completion) (answer : Answer)
     → rows_now new.graph ≡ rows_now old.graph → ◌≡◌ {A = State × Answer} (after_completion completion (state_now a old pending)) (
       record (state_now a old pending) {
         counter = new.sessions.counter;
@@ -209,5 +209,5 @@ pub finished : (a : Asking) (old new : Parts) (pending : Pending) (completion : 
       answer,
     )
     → ◌≡◌ {A = State × Answer} (after_completion completion (state_now a old pending)) (state_at a.ttl a.moment new, answer)
-finished a old new pending completion answer rows e =
+finish_answers a old new pending completion answer rows e =
     e ∙ ap (λ (g : List Attachment). (record (state_at a.ttl a.moment new) { graph = g }, answer)) (sym rows)

@@ -1,6 +1,6 @@
 -- Which numbers have a link before a change and afterwards, by what is stored for their identifiers, and the flips between.
 -- In order: links by identifiers (`linked_have_identifiers`, `linked_by`); those before the change by the numbers afterwards; an item whose
--- match changes, and of which an end has a mark, is a flip (`flipped`), and a flip is of such an item (`flip_of`); from a number
+-- match changes, and of which an end has a mark, is a flip (`is_flip`), and a flip is of such an item (`flip_of`); from a number
 -- with a mark, the links of the region's words are those of the two views (`old_there`, `there_mid`), and flips are theirs.
 use Rattle.std.proofs.Common.{◌≡◌, ◌⊎◌, inl, inr, ℕ, Bool, true, false, not, Option, Some, None, List, [], ◌∷◌, refl, ap, ◌∙◌}
 use Rattle.std.proofs.Common.{sym, subst, is_some}
@@ -80,8 +80,8 @@ module _ (tells : BytesTellIdentifiers) (old new : ViewSeen) (s : Search) (was :
       in (n.0, n.1, change.numbers v n.0 n.2, change.numbers w n.1 n.3, n.4)
 
   -- what is stored on an item without a change stays
-  pub unchanged : (x : Item) → change_of changes x ≡ None → stored_on x new.rows ≡ stored_on x old.rows
-  unchanged x e = change.after x ∙ ap (λ o. list_after o (stored_on x old.rows)) e
+  pub stored_same : (x : Item) → change_of changes x ≡ None → stored_on x new.rows ≡ stored_on x old.rows
+  stored_same x e = change.after x ∙ ap (λ o. list_after o (stored_on x old.rows)) e
 
   pub change_at : (x : Item) (c : ItemChange) → IsCanonItem x → change_of changes x ≡ Some c → Has changes c × (c.item ≡ x)
   change_at x c i e =
@@ -97,9 +97,9 @@ module _ (tells : BytesTellIdentifiers) (old new : ViewSeen) (s : Search) (was :
     match_at rows a b x e = ap (λ o. one_meets s.match_links (stored_where o rows)) e
 
     -- an item whose match changes is a flip, where an end has a mark
-    pub flipped : (v w : ℕ) (a b : Identifier) (added : Bool) → Marked v → new.id_at v ≡ Some a → new.id_at w ≡ Some b
+    pub is_flip : (v w : ℕ) (a b : Identifier) (added : Bool) → Marked v → new.id_at v ≡ Some a → new.id_at w ≡ Some b
         → is_match old.rows s.match_links a b ≡ not added → is_match new.rows s.match_links a b ≡ added → IsFlipped flips added v w
-    flipped v w a b added marked i j m n = by_pair (pair_of a b) refl
+    is_flip v w a b added marked i j m n = by_pair (pair_of a b) refl
       where
         no_pair : (c : Bool) → one_meets s.match_links [] ≡ not c → one_meets s.match_links [] ≡ c → ⊥
         no_pair true e f = some_if_met s.match_links [] f refl
@@ -133,7 +133,7 @@ module _ (tells : BytesTellIdentifiers) (old new : ViewSeen) (s : Search) (was :
 
         by_change : (x : Item) → pair_of a b ≡ Some x → (o : Option ItemChange) → change_of changes x ≡ o → IsFlipped flips added v w
         by_change x e None f =
-            absurd (differs added (sym n ∙ match_at new.rows a b x e ∙ ap (one_meets s.match_links) (unchanged x f)
+            absurd (differs added (sym n ∙ match_at new.rows a b x e ∙ ap (one_meets s.match_links) (stored_same x f)
             ∙ sym (match_at old.rows a b x e) ∙ m))
         by_change x e (Some c) f =
             let p = change_at x c (pair_canon a b x (is.canon v a i) (is.canon w b j) e) f
@@ -202,17 +202,17 @@ module _ (tells : BytesTellIdentifiers) (old new : ViewSeen) (s : Search) (was :
         in cc
 
     -- a link of the new view that is not added was there
-    pub stayed : (v w : ℕ) → Marked v → Links new s v w → ¬ IsFlipped flips true v w → Links old s v w
-    stayed v w marked l apart =
+    pub link_stays : (v w : ℕ) → Marked v → Links new s v w → ¬ IsFlipped flips true v w → Links old s v w
+    link_stays v w marked l apart =
         let n = linked_have_identifiers new s v w l
         in elim (cases_Bool (is_match old.rows s.match_links n.0 n.1)) [
           | inl t ↦ linked_before v w n.0 n.1 n.2 n.3 t
-          | inr t ↦ absurd (apart (flipped v w n.0 n.1 true marked n.2 n.3 t n.4))
+          | inr t ↦ absurd (apart (is_flip v w n.0 n.1 true marked n.2 n.3 t n.4))
         ]
 
     -- the region's old links are those of the old view
     pub old_there : (v w : ℕ) → Marked v → region.Old (Links new s) flips v w → Links old s v w
-    old_there v w marked (inl p) = stayed v w marked p.0 p.1
+    old_there v w marked (inl p) = link_stays v w marked p.0 p.1
     old_there v w marked (inr f) = removed_linked v w f
 
     pub there_old : (v w : ℕ) → Marked v → Links old s v w → region.Old (Links new s) flips v w
@@ -220,7 +220,7 @@ module _ (tells : BytesTellIdentifiers) (old new : ViewSeen) (s : Search) (was :
         let n = named_before v w l
         in elim (cases_Bool (is_match new.rows s.match_links n.0 n.1)) [
           | inl t ↦ inl (linked_by new s is v w n.0 n.1 n.2 n.3 t, λ f. added_unlinked v w f l)
-          | inr t ↦ inr (flipped v w n.0 n.1 false marked n.2 n.3 n.4 t)
+          | inr t ↦ inr (is_flip v w n.0 n.1 false marked n.2 n.3 n.4 t)
         ]
 
     -- and the links of both stay

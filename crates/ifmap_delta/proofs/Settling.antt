@@ -36,7 +36,7 @@ use Rattle.ifmap_delta.specs.Changes.{ShowsAfter}
 use Rattle.ifmap_delta.specs.Shown.{goes_on}
 use Rattle.ifmap_delta.specs.Sights.{AreMarks, ViewSeen}
 use Rattle.ifmap_delta.specs.Touched.{HasNothingToTell, brought_items, link_item, is_looked_at_either, linked_items, moved_items, planned_items, turns}
-use Rattle.ifmap_delta.proofs.Flipping.{change_at, unchanged}
+use Rattle.ifmap_delta.proofs.Flipping.{change_at, stored_same}
 use Rattle.ifmap_fresh.specs.laws.JoiningLaws.{match_turned, some_if_met}
 use Rattle.ifmap_delta.proofs.Marking.{LevelsExpand, LevelsReach, expanded_is, expanded_marked, mark_named, marked_expanded}
 use Rattle.ifmap_delta.proofs.Marking.{marked_reached, reached_is, reached_marked}
@@ -218,7 +218,7 @@ module _ (tells : BytesTellIdentifiers) (reach : LevelsReach) (expand : LevelsEx
       where
         by : (o : Option ItemChange) → change_of changes x ≡ o → HasNothingToTell old new s x
         by None e =
-            let same = unchanged tells old new s was is changes change x e
+            let same = stored_same tells old new s was is changes change x e
             in record { looked = still x i out same; stored = λ h. sym same }
         by (Some c) e =
             let at = change_at tells old new s was is changes change x c i e

@@ -1,7 +1,7 @@
 -- What comes of questions, of requests and of posts.
 -- 1. Each comes of the next within it: a request of its question (`as_request`), a post of a
 --    request that it means (`as_post`), and a post for which nothing is asked of nothing
---    (`unasked`).
+--    (`finds_unasked`).
 -- 2. A request that is asked once: what it comes to, by its answer (`once_replied`, `once_spent`).
 -- 3. What is told to a poll fits (`told_fits`), and events weigh no more than allowed (`light_by`).
 -- 4. Requests as the code matches them, by copies of their parts (`request_is`, `first_is`).
@@ -60,8 +60,8 @@ module _ {H : Type 0} (gives : ℕ → Type 0) (before after : DeskSeen H) where
   as_post a body found f short means = record { turns = f.turns; tells = f.tells; finds = f.finds body short means }
 
   -- a post for which nothing is asked
-  pub unasked : (p : Posting) (found : Finding) → after ≡ before → IsFindingOf gives p [] found → FindsPost gives before after p found
-  unasked p found same finds = record {
+  pub finds_unasked : (p : Posting) (found : Finding) → after ≡ before → IsFindingOf gives p [] found → FindsPost gives before after p found
+  finds_unasked p found same finds = record {
     turns = [];
     tells = subst (λ (d : DeskSeen H). DeskTakesTurns before d []) (sym same) (tells_none before);
     finds = finds;
@@ -178,19 +178,19 @@ pub refused_post : {H : Type 0} (gives : ℕ → Type 0) (desk : DeskSeen H) (p 
     → Means p.body (Err (Named code)) → p.after ≡ p.words
     → (found ≡ finding.Replied (refusal_reply code)) ⊎ (found ≡ finding.NoMemory) → FindsPost gives desk desk p found
 refused_post gives desk p code found means same (inl is) =
-    unasked gives desk desk p found refl (subst (IsFindingOf gives p []) (sym is) (inl (code, means, (refl, same), refl)))
+    finds_unasked gives desk desk p found refl (subst (IsFindingOf gives p []) (sym is) (inl (code, means, (refl, same), refl)))
 refused_post gives desk p code found means same (inr is) =
-    unasked gives desk desk p found refl (subst (IsFindingOf gives p []) (sym is) (inl (refl, same)))
+    finds_unasked gives desk desk p found refl (subst (IsFindingOf gives p []) (sym is) (inl (refl, same)))
 
 -- a body that is no envelope
 pub unreadable_post : {H : Type 0} (gives : ℕ → Type 0) (desk : DeskSeen H) (p : Posting) → Means p.body (Err Unreadable)
     → p.after ≡ p.words → FindsPost gives desk desk p finding.Unreadable
-unreadable_post gives desk p means same = unasked gives desk desk p finding.Unreadable refl (means, (refl, same))
+unreadable_post gives desk p means same = finds_unasked gives desk desk p finding.Unreadable refl (means, (refl, same))
 
 -- want of memory before anything is asked
 pub wanting_post : {H : Type 0} (gives : ℕ → Type 0) (desk : DeskSeen H) (p : Posting) → p.after ≡ p.words
     → FindsPost gives desk desk p finding.NoMemory
-wanting_post gives desk p same = unasked gives desk desk p finding.NoMemory refl (inl (refl, same))
+wanting_post gives desk p same = finds_unasked gives desk desk p finding.NoMemory refl (inl (refl, same))
 
 -- ---- what came of a reply
 

@@ -17,11 +17,11 @@ use Rattle.ifmap_dialogue.specs.Wires.{GainsBytes, IsNoMemoryOutput, WritesAnswe
 use Rattle.ifmap_io.specs.Rises.{keeps_appends}
 
 -- what was written of a message
-pub written : (old new : Option (List ℕ)) (the_sent : Sent) (message : List ℕ) → Sends old new the_sent message
+pub what_is_written : (old new : Option (List ℕ)) (the_sent : Sent) (message : List ℕ) → Sends old new the_sent message
     → (output : List ℕ) × WritesOnce message the_sent output × Appends old new output
-written old new sent.Done message s = (message, refl, s)
-written old new sent.WriteFault message (n, s) = (take n message, (n, refl), s)
-written old new sent.NoMemory message s = ([], refl, keeps_appends old new s)
+what_is_written old new sent.Done message s = (message, refl, s)
+what_is_written old new sent.WriteFault message (n, s) = (take n message, (n, refl), s)
+what_is_written old new sent.NoMemory message s = ([], refl, keeps_appends old new s)
 
 -- a wire by its parts
 abbrev wire_of : Option (List ℕ) → Option (List ℕ) → ℕ → ℕ → Bool → WireSeen

@@ -92,15 +92,15 @@ module _ (c : ℕ) (t : FilterToken) (s : IsSymbol c t) where
   symbol_takes : (more : List ℕ) → Takes (c ∷ more) t more
   symbol_takes more = ap token_at (not_white c more s.no_white) ∙ one_symbol (c ∷ more) c more refl s.no_quote s.no_start t s.is
 
-  pub before : (text : List ℕ) (ts : List FilterToken) → Lexes text ts → Lexes (c ∷ text) (t ∷ ts)
-  before text ts l = record {
+  pub lexes_before : (text : List ℕ) (ts : List FilterToken) → Lexes text ts → Lexes (c ∷ text) (t ∷ ts)
+  lexes_before text ts l = record {
     is_text = after_one c s.one text l.is_text;
     to = λ cs e. subst (λ x. To Takes x (t ∷ ts) cs) (sym (ap (λ x. x ++ cs) (one_first c s.one text)))
         (chars text ++ cs, symbol_takes (chars text ++ cs), l.to cs e);
   }
 
   pub symbol_alone : Lexes (c ∷ []) (t ∷ [])
-  symbol_alone = before [] [] lexes_nothing
+  symbol_alone = lexes_before [] [] lexes_nothing
 
   pub symbol_ends : (text : List ℕ) → EndsName (c ∷ text)
   symbol_ends = one_ends c s.one s.no_character s.no_colon

@@ -40,7 +40,7 @@ use Rattle.ifmap_filter.specs.Printing.{CanBeParsed, IsAnsweredBack, NestsNoDeep
 use Rattle.ifmap_filter.specs.Spaces.{HasSpaces, brackets_spaces, has_each, has_space, name_spaces, predicate_spaces, test_spaces}
 use Rattle.ifmap_filter.specs.Texts.{WritesFilterWithin}
 use Rattle.ifmap_filter.specs.Tokens.{Takes, name_token}
-use Rattle.ifmap_filter.proofs.Lexed.{EndsName, IsPart, IsWord, Lexes, and_is, any_is, at_is, before, close_bracket_is, close_is, equals_is, lexed_bare, lexed_prefixed, lexes_both, lexes_nothing, nothing_ends, open_bracket_is, open_is, or_is, symbol_alone, symbol_ends}
+use Rattle.ifmap_filter.proofs.Lexed.{EndsName, IsPart, IsWord, Lexes, and_is, any_is, at_is, lexes_before, close_bracket_is, close_is, equals_is, lexed_bare, lexed_prefixed, lexes_both, lexes_nothing, nothing_ends, open_bracket_is, open_is, or_is, symbol_alone, symbol_ends}
 use Rattle.ifmap_filter.proofs.Deciding.{one_filter, stops_where_no_filter}
 use Rattle.ifmap_filter.proofs.LexedParts.{AreTokens, IsLiteral, IsToken, are_tokens, lexed_literal}
 use Rattle.ifmap_filter.proofs.PrintLaws.{prints_and, prints_attr, prints_child, prints_or}
@@ -264,7 +264,7 @@ module _ (spaces : List (List ℕ)) (name : element.Name) (part : IsPart name.lo
   ]
 
 equals_literal : (value : List ℕ) → IsLiteral value → Lexes (codes "=" ++ literal_text value) (EqualsSign ∷ (Literal value ∷ []))
-equals_literal value l = before equals_sign EqualsSign equals_is (literal_text value) (Literal value ∷ []) (lexed_literal value l)
+equals_literal value l = lexes_before equals_sign EqualsSign equals_is (literal_text value) (Literal value ∷ []) (lexed_literal value l)
 
 equals_ends : (value : List ℕ) → EndsName (codes "=" ++ literal_text value)
 equals_ends value = symbol_ends equals_sign EqualsSign equals_is (literal_text value)
@@ -274,7 +274,7 @@ attribute_back : (scope : Scope) (local value : List ℕ) → IsPart local → I
 attribute_back scope local value p l = record {
   head = At;
   others = Name (unprefixed_name local) ∷ (EqualsSign ∷ (Literal value ∷ []));
-  lexed = before (byte "@") At at_is (local ++ (codes "=" ++ literal_text value))
+  lexed = lexes_before (byte "@") At at_is (local ++ (codes "=" ++ literal_text value))
       (Name (unprefixed_name local) ∷ (EqualsSign ∷ (Literal value ∷ [])))
       (lexes_both local (codes "=" ++ literal_text value) (Name (unprefixed_name local) ∷ []) (EqualsSign ∷ (Literal value ∷ []))
       (lexed_bare local p) (equals_literal value l) (equals_ends value));
@@ -406,7 +406,7 @@ module _ (spaces : List (List ℕ)) where
   group_forms n text p f = record {
     head = OpenParenthesis;
     others = f.head ∷ (f.others ++ (CloseParenthesis ∷ []));
-    lexed = before (byte "(") OpenParenthesis open_is (text ++ codes ")") (f.head ∷ (f.others ++ (CloseParenthesis ∷ [])))
+    lexed = lexes_before (byte "(") OpenParenthesis open_is (text ++ codes ")") (f.head ∷ (f.others ++ (CloseParenthesis ∷ [])))
         (lexes_both text (codes ")") (f.head ∷ f.others) (CloseParenthesis ∷ []) f.lexed (symbol_alone (byte ")") CloseParenthesis close_is)
         (symbol_ends (byte ")") CloseParenthesis close_is []));
     takes = λ rest.
@@ -587,7 +587,7 @@ module _ (spaces : List (List ℕ)) where
         let text = (predicate_text spaces p).alone in
         record {
           tokens = OpenBracket ∷ (f.head ∷ (f.others ++ (CloseBracket ∷ [])));
-          lexed = before (byte "[") OpenBracket open_bracket_is (text ++ codes "]") (f.head ∷ (f.others ++ (CloseBracket ∷ [])))
+          lexed = lexes_before (byte "[") OpenBracket open_bracket_is (text ++ codes "]") (f.head ∷ (f.others ++ (CloseBracket ∷ [])))
               (lexes_both text (codes "]") (f.head ∷ f.others) (CloseBracket ∷ []) f.lexed (symbol_alone (byte "]") CloseBracket
               close_bracket_is)
               (symbol_ends (byte "]") CloseBracket close_bracket_is []));

@@ -529,14 +529,14 @@ module _ (scope : Scope) where
 
   -- (5) all together
 
-  pub right : (n : ℕ) (w : FilterState) → n + open_parts w ≡ depth_limit → (t : FilterToken) → IsRight n w t (step_token scope w t)
-  right n Start e t =
+  pub steps_right : (n : ℕ) (w : FilterState) → n + open_parts w ≡ depth_limit → (t : FilterToken) → IsRight n w t (step_token scope w t)
+  steps_right n Start e t =
       through n Start (TestDue []) t (λ filter more. filter_starts scope filter t more) (step_test scope [] t) (right_test n [] e t)
-  right n (TestDue done) e t = right_test n done e t
-  right n (Named done name) e t = right_named n done name e t
-  right n (Tested done) e t = right_tested n done e t
-  right n (FactorDue c) e t = right_factor n c e t
-  right n (LocalDue c) e t = right_local n c e t
-  right n (EqualsDue c a) e t = right_equals n c a e t
-  right n (LiteralDue c a) e t = right_literal n c a e t
-  right n (FactorDone c) e t = right_done n c e t
+  steps_right n (TestDue done) e t = right_test n done e t
+  steps_right n (Named done name) e t = right_named n done name e t
+  steps_right n (Tested done) e t = right_tested n done e t
+  steps_right n (FactorDue c) e t = right_factor n c e t
+  steps_right n (LocalDue c) e t = right_local n c e t
+  steps_right n (EqualsDue c a) e t = right_equals n c a e t
+  steps_right n (LiteralDue c a) e t = right_literal n c a e t
+  steps_right n (FactorDone c) e t = right_done n c e t

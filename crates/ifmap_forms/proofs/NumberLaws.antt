@@ -25,8 +25,8 @@ digits [] h = let wrong : false ≡ true = h in cc
 digits (b ∷ bs) h = sym (all_digits (b ∷ bs)) ∙ h
 
 module _ {E : Type 0} (text : List ℕ) (number : is_number text ≡ true) (r : Result ℕ E) (h : ParsesUnsigned 64 10 text r) where
-  pub parsed : OkIff r ((0 < length text) × (digits_value 10 text < 2 ^ 64)) (digits_value 10 text)
-  parsed = parse_digits own 64 text r h (digits text number)
+  pub digits_parse : OkIff r ((0 < length text) × (digits_value 10 text < 2 ^ 64)) (digits_value 10 text)
+  digits_parse = parse_digits own 64 text r h (digits text number)
 
 pub out_of_range : (text : List ℕ) → is_number text ≡ true → ¬ ((0 < length text) × (digits_value 10 text < 2 ^ 64))
     → 2 ^ 64 - 1 ≡ min (digits_value 10 text) (2 ^ 64 - 1)

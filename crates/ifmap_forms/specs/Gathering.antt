@@ -57,9 +57,9 @@ module _ {X : Type 0} where
   pub starts : (check : Check (List X)) → IsRestAfter check check []
   starts check = record { goes = λ found f. subst check (sym (after_none found)) f }
 
-  pub further : (whole rest next : Check (List X)) (made more : List X) → IsRestAfter whole rest made
+  pub goes_further : (whole rest next : Check (List X)) (made more : List X) → IsRestAfter whole rest made
       → ((found : Result (List X) Code) → next found → rest (after_made more found)) → IsRestAfter whole next (made ++ more)
-  further whole rest next made more g step = record {
+  goes_further whole rest next made more g step = record {
     goes = λ found f. subst whole (sym (after_more made more found)) (g.goes (after_made more found) (step found f));
   }
 
@@ -266,7 +266,7 @@ module _ {X : Type 0} (whole : Check (List X)) where
           → more ≡ made ++ option_list o → IsRestAfter whole (each_element one (index + 1) (parts_in others)) more
       elements_further o more f same =
           subst (λ (m : List X). IsRestAfter whole (each_element one (index + 1) (parts_in others)) m) (sym same)
-          (further whole (each_element one index (parts_in left)) (each_element one (index + 1) (parts_in others)) made (option_list o) g
+          (goes_further whole (each_element one index (parts_in left)) (each_element one (index + 1) (parts_in others)) made (option_list o) g
           (λ found r. subst (λ (ps : List Part). each_element one index ps (after_made (option_list o) found)) (sym parts_are)
           (part_goes_on one index (parts_in others) (out-Child child) o f found r)))
 
@@ -298,7 +298,7 @@ module _ (whole : Check (List Identifier)) (most : ℕ) where
           → IsRestAfter whole (identifiers_check most more (parts_in others)) more
       identifiers_further o more f same =
           subst (λ (m : List Identifier). IsRestAfter whole (identifiers_check most m (parts_in others)) m) (sym same)
-          (further whole (identifiers_check most made (parts_in left))
+          (goes_further whole (identifiers_check most made (parts_in left))
           (identifiers_check most (made ++ option_list o) (parts_in others)) made
           (option_list o) g
           (λ found r. subst (λ (ps : List Part). identifiers_check most made ps (after_made (option_list o) found)) (sym places_are)

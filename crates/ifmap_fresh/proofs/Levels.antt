@@ -14,7 +14,7 @@ use Rattle.ifmap_view.specs.declared.attachments.Attachment.{Attachment}
 use Rattle.ifmap_ident.specs.Items.{IsCanonItem}
 use Rattle.ifmap_view.specs.Rows.{stored_between}
 use Rattle.ifmap_fresh.specs.Matching.{LinksTo, is_match, is_terminal}
-use Rattle.ifmap_fresh.specs.Reached.{identifiers_in, is_below, is_expanded, is_reached, is_within, next_to, within}
+use Rattle.ifmap_fresh.specs.Reached.{identifiers_in, is_below, is_expanded, is_reached, is_within, next_to, ends_within}
 use Rattle.ifmap_fresh.specs.Walked.{SearchWalk}
 use Rattle.ifmap_fresh.specs.laws.JoiningLaws.{some_if_met, stands_in}
 use Rattle.ifmap_fresh.specs.laws.SameLaws.{member}
@@ -43,9 +43,9 @@ module _ (tells : BytesTellIdentifiers) (rows : List Attachment) (items : AllByR
       let j = joined_has (λ (r : Attachment). identifiers_of r.item) rows a h
       in identifier_of (identifiers_of j.0.item) (member (λ r. IsCanonItem r.item) rows items j.0 j.1).identifiers a j.2
 
-  start_within : (n : ℕ) → Has (within rows s n) s.start
+  start_within : (n : ℕ) → Has (ends_within rows s n) s.start
   start_within zero = inl refl
-  start_within (suc n) = has_left (within rows s n) (flat_map (next_to rows s) (within rows s n)) s.start (start_within n)
+  start_within (suc n) = has_left (ends_within rows s n) (flat_map (next_to rows s) (ends_within rows s n)) s.start (start_within n)
 
   next_has : (a b : Identifier) → IsIdentifier a → T a ≡ false → M a b → Has (next_to rows s a) b
   next_has a b i t m =
@@ -59,20 +59,20 @@ module _ (tells : BytesTellIdentifiers) (rows : List Attachment) (items : AllByR
       by true is k = absurd k
       by false is k = let f = filter_has (is_match rows s.match_links a) (identifiers_in rows) b k in (is, (in_canon b f.0, f.1))
 
-  pub walk_within : (n k : ℕ) (a : Identifier) → k ≤ n → SearchWalk rows s k a → Has (within rows s n) a
-  walk_within n zero a h (begins e) = subst (λ x. Has (within rows s n) x) (sym e) (start_within n)
+  pub walk_within : (n k : ℕ) (a : Identifier) → k ≤ n → SearchWalk rows s k a → Has (ends_within rows s n) a
+  walk_within n zero a h (begins e) = subst (λ x. Has (ends_within rows s n) x) (sym e) (start_within n)
   walk_within zero (suc k) a h w = absurd (omega (arith, h))
   walk_within (suc n) (suc k) a h (goes_on {u = u} w t l) =
-      has_right (within rows s n) (flat_map (next_to rows s) (within rows s n)) a
-      (has_joined (next_to rows s) (within rows s n) u a (walk_within n k u (omega (arith, h)) w)
+      has_right (ends_within rows s n) (flat_map (next_to rows s) (ends_within rows s n)) a
+      (has_joined (next_to rows s) (ends_within rows s n) u a (walk_within n k u (omega (arith, h)) w)
       (next_has u a (on_canon rows s start k u w) t l))
 
-  pub within_walk : (n : ℕ) (a : Identifier) → Has (within rows s n) a → (k : ℕ) × (k ≤ n) × SearchWalk rows s k a
+  pub within_walk : (n : ℕ) (a : Identifier) → Has (ends_within rows s n) a → (k : ℕ) × (k ≤ n) × SearchWalk rows s k a
   within_walk zero a (inl e) = (zero, omega arith, begins (sym e))
   within_walk zero a (inr h) = absurd h
-  within_walk (suc n) a h = elim (has_either (within rows s n) (flat_map (next_to rows s) (within rows s n)) a h) [
+  within_walk (suc n) a h = elim (has_either (ends_within rows s n) (flat_map (next_to rows s) (ends_within rows s n)) a h) [
     | inl p ↦ let r = within_walk n a p in (r.0, omega (arith, r.1), r.2)
-    | inr p ↦ let j = joined_has (next_to rows s) (within rows s n) a p
+    | inr p ↦ let j = joined_has (next_to rows s) (ends_within rows s n) a p
         in let r = within_walk n j.0 j.1
         in let x = has_next j.0 a j.2
         in (suc r.0, omega (arith, r.1), goes_on r.2 x.0 x.1)
@@ -80,12 +80,12 @@ module _ (tells : BytesTellIdentifiers) (rows : List Attachment) (items : AllByR
 
   pub is_within_walk : (n : ℕ) (a : Identifier) → IsIdentifier a → is_within rows s n a ≡ true → (k : ℕ) × (k ≤ n) × SearchWalk rows s k a
   is_within_walk n a i e =
-      let f = any_has (same_identifier a) (within rows s n) e
+      let f = any_has (same_identifier a) (ends_within rows s n) e
       in let w = within_walk n f.0 f.1
-      in within_walk n a (subst (λ x. Has (within rows s n) x) (sym (same_is tells a f.0 i (on_canon rows s start w.0 f.0 w.2) f.2)) f.1)
+      in within_walk n a (subst (λ x. Has (ends_within rows s n) x) (sym (same_is tells a f.0 i (on_canon rows s start w.0 f.0 w.2) f.2)) f.1)
 
   pub walk_is_within : (n k : ℕ) (a : Identifier) → k ≤ n → SearchWalk rows s k a → is_within rows s n a ≡ true
-  walk_is_within n k a h w = has_any (same_identifier a) (within rows s n) a (walk_within n k a h w) (identifier_itself a)
+  walk_is_within n k a h w = has_any (same_identifier a) (ends_within rows s n) a (walk_within n k a h w) (identifier_itself a)
 
   -- an identifier is reached exactly where some walk ends in it
   pub reached_by_walks : (a : Identifier) → IsIdentifier a → (is_reached rows s a ≡ true) ↔ IsReached M T s.start s.max_depth a

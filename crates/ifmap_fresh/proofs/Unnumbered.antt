@@ -42,9 +42,9 @@ module _ (tells : BytesTellIdentifiers) (rows : List Attachment) (id_at : ℕ �
   on_one a zero (begins e) n = let w = is.alone a (subst IsIdentifier (sym e) start) n in unnumbered w.0 (w.1 ∙ ap Some e)
   on_one a (suc k) w n = no_walk k a w
 
-  pub nothing : (x : Item) → IsCanonItem x → stored_on x rows ≢ [] → is_looked_at rows s x ≡ true → ⊥
-  nothing (One a) i n e = let r = (reached_by_walks tells rows is.graph.items s start a i.identifiers.0).0 e in on_one a r.0 r.2 n
-  nothing (Pair a b) i n e =
+  pub finds_nothing : (x : Item) → IsCanonItem x → stored_on x rows ≢ [] → is_looked_at rows s x ≡ true → ⊥
+  finds_nothing (One a) i n e = let r = (reached_by_walks tells rows is.graph.items s start a i.identifiers.0).0 e in on_one a r.0 r.2 n
+  finds_nothing (Pair a b) i n e =
       let p = and_parts (is_match rows s.match_links a b) (is_expanded rows s a || is_expanded rows s b) e
       in elim (or_cases (is_expanded rows s a) (is_expanded rows s b) p.1) [
         | inl x ↦ let w = expanded_walk tells rows is.graph.items s start a i.identifiers.0 x in from_match a b w.1.0 w.1.2 p.0

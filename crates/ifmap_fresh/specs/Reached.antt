@@ -19,12 +19,12 @@ module _ (rows : List Attachment) (s : Search) where
   next_to a = if is_terminal s.terminal a then [] else filter (is_match rows s.match_links a) (identifiers_in rows)
 
   -- the identifiers that walks of at most so many links end in
-  abbrev pub within : ℕ → List Identifier
-  within zero = s.start ∷ []
-  within (suc n) = within n ++ flat_map next_to (within n)
+  abbrev pub ends_within : ℕ → List Identifier
+  ends_within zero = s.start ∷ []
+  ends_within (suc n) = ends_within n ++ flat_map next_to (ends_within n)
 
   abbrev pub is_within : ℕ → Identifier → Bool
-  is_within n a = list_any (same_identifier a) (within n)
+  is_within n a = list_any (same_identifier a) (ends_within n)
 
   -- a walk ends in the identifier
   abbrev pub is_reached : Identifier → Bool

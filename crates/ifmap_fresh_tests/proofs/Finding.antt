@@ -21,14 +21,14 @@ kept : (item at : Item) (xs : List Stored) (rest : List Attachment) → same_ite
 kept item at [] rest e = refl
 kept item at (x ∷ xs) rest e = rw e (ap (λ l. x ∷ l) (kept item at xs rest e))
 
-pub passed : (item at : Item) (xs : List Stored) (rest : List Attachment) → same_item at item ≡ false
+pub passes_item : (item at : Item) (xs : List Stored) (rest : List Attachment) → same_item at item ≡ false
     → stored_on item (map (attachment_on at) xs ++ rest) ≡ stored_on item rest
-passed item at [] rest e = refl
-passed item at (x ∷ xs) rest e = rw e (passed item at xs rest e)
+passes_item item at [] rest e = refl
+passes_item item at (x ∷ xs) rest e = rw e (passes_item item at xs rest e)
 
 -- an item above one that is the same as another is not the same as that
-pub above : (item : Item) (s t : Shelf) → same_item s.item item ≡ true → item_below s t ≡ true → same_item t.item item ≡ false
-above item s t e l =
+pub above_differs : (item : Item) (s t : Shelf) → same_item s.item item ≡ true → item_below s t ≡ true → same_item t.item item ≡ false
+above_differs item s t e l =
     let tied : item_order s.item item ≡ Equal = (Equal-is (item_order s.item item)).0 (sym (items_tie s.item item) ∙ e)
     in let less : item_order item t.item ≡ Less = sym (items_total.congr s.item item t.item tied) ∙ is_less (item_order s.item t.item) l
     in items_tie t.item item ∙ ap is_eq (items_total.antisymm t.item item ∙ ap ordering_reverse less)
@@ -36,7 +36,7 @@ above item s t e l =
 pub none_above : (item : Item) (s : Shelf) (ss : List Shelf) → same_item s.item item ≡ true → AllByRecursion (λ t. item_below s t ≡ true) ss
     → stored_on item (rows_on_shelves ss) ≡ []
 none_above item s [] e a = refl
-none_above item s (t ∷ ts) e a = passed item t.item t.rows.items (rows_on_shelves ts) (above item s t e a.0) ∙ none_above item s ts e a.1
+none_above item s (t ∷ ts) e a = passes_item item t.item t.rows.items (rows_on_shelves ts) (above_differs item s t e a.0) ∙ none_above item s ts e a.1
 
 -- the shelf of the item has all of it
 pub shelf_stores_all : (item : Item) (s : Shelf) (ss : List Shelf) → all_pairs item_below (s ∷ ss) ≡ true → same_item s.item item ≡ true
@@ -47,6 +47,6 @@ shelf_stores_all item s ss r e =
     ∙ append-nil s.rows.items)
 
 -- another shelf has nothing of it
-pub past : (item : Item) (s : Shelf) (ss : List Shelf) → same_item s.item item ≡ false
+pub passes_shelf : (item : Item) (s : Shelf) (ss : List Shelf) → same_item s.item item ≡ false
     → stored_on item (rows_on_shelves (s ∷ ss)) ≡ stored_on item (rows_on_shelves ss)
-past item s ss e = passed item s.item s.rows.items (rows_on_shelves ss) e
+passes_shelf item s ss e = passes_item item s.item s.rows.items (rows_on_shelves ss) e

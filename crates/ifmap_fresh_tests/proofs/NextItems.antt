@@ -17,7 +17,7 @@ use Rattle.ifmap_plans.specs.After.{IsAbove, IsNextItem, NoItem}
 use Rattle.ifmap_view.specs.Rows.{stored_on}
 use Rattle.ifmap_fresh_tests.specs.declared.shelves.Shelf.{Shelf}
 use Rattle.ifmap_fresh_tests.specs.Lists.{all_pairs, carries, is_above, has_rows, item_below, next_in, rows_on_shelves}
-use Rattle.ifmap_fresh_tests.proofs.Finding.{shelf_stores_all, none_above, past}
+use Rattle.ifmap_fresh_tests.proofs.Finding.{shelf_stores_all, none_above, passes_shelf}
 use Rattle.ifmap_fresh_tests.proofs.Pairs.{pairs_of}
 use Rattle.ifmap_ident.specs.SameLaws.{item_itself, items_total}
 
@@ -33,7 +33,7 @@ empty (x ∷ xs) e = let q : true ≡ false = e in cc
 nothing_of : (x : Item) (ss : List Shelf) → AllByRecursion (λ t. item_order x t.item ≡ Less) ss → stored_on x (rows_on_shelves ss) ≡ []
 nothing_of x [] a = refl
 nothing_of x (t ∷ ts) a =
-    past x t ts (items_tie t.item x ∙ ap is_eq (items_total.antisymm t.item x ∙ ap ordering_reverse a.0)) ∙ nothing_of x ts a.1
+    passes_shelf x t ts (items_tie t.item x ∙ ap is_eq (items_total.antisymm t.item x ∙ ap ordering_reverse a.0)) ∙ nothing_of x ts a.1
 
 all_further : (x : Item) (s : Shelf) (ss : List Shelf) → item_order x s.item ≡ Less → AllByRecursion (λ t. item_below s t ≡ true) ss
     → AllByRecursion (λ t. item_order x t.item ≡ Less) ss
@@ -82,11 +82,11 @@ module _ (last : Option Item) where
             above = rest.0.above;
             carries = λ n. elim (cases_Bool (same_item s.item x)) [
               | inl k ↦ rest.0.carries (none_above x s ss k (pairs_of item_below (s ∷ ss) r).0)
-              | inr k ↦ rest.0.carries (sym (past x s ss k) ∙ n)
+              | inr k ↦ rest.0.carries (sym (passes_shelf x s ss k) ∙ n)
             ];
             least = λ other i m l. elim (cases_Bool (same_item s.item other)) [
               | inl k ↦ m (passed_over s ss r t other i k)
-              | inr k ↦ rest.0.least other i (λ n. m (past other s ss k ∙ n)) l
+              | inr k ↦ rest.0.least other i (λ n. m (passes_shelf other s ss k ∙ n)) l
             ];
           },
           rest.1,
@@ -100,7 +100,7 @@ module _ (last : Option Item) where
     | inr t ↦ elim (cases_Bool (same_item s.item x)) [
       | inl k ↦ passed_over s ss r t x i k
       | inr k ↦
-          past x s ss k
+          passes_shelf x s ss k
           ∙ none_found ss (and_parts (list_all (item_below s) ss) (all_pairs item_below ss) r).1 (rw t at e) x i
     ]
   ]

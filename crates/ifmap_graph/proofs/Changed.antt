@@ -1,5 +1,5 @@
 -- What holds of a graph's parts (`IsInside`) as its names get room, and as an item's shelf comes.
--- 1. Where the same identifiers live, more room changes nothing that holds (`roomier`).
+-- 1. Where the same identifiers live, more room changes nothing that holds (`holds_with_more_room`).
 -- 2. An item's shelf comes, empty on both sides: its ends are held once more (`inside_comes`).
 -- 3. A number that is live was live where it is named as before (`was_live`).
 -- 4. An empty shelf goes: the entry that has it is found (`entry_there`), its ends are held once
@@ -53,10 +53,10 @@ module _ (old new : Holdings Identifier) (live : new.live ≡ old.live) where
   held_alike a n h = subst (λ l. IsHeld identifier_order (record { live = l; spare = new.spare; limit = new.limit }) a n) (sym live) h
 
   -- there is more room
-  pub roomier : (look : ℕ → Option Shelf) (es : Entries) (links longer : List (Sides LinkSeen)) → IsPool identifier_order new
+  pub holds_with_more_room : (look : ℕ → Option Shelf) (es : Entries) (links longer : List (Sides LinkSeen)) → IsPool identifier_order new
       → ((v : ℕ) → sides_at longer v ≡ sides_at links v) → length links ≤ length longer → IsInside old look es links
       → IsInside new look es longer
-  roomier look es links longer pool same more is = record {
+  holds_with_more_room look es links longer pool same more is = record {
     placed = is.placed;
     used = is.used;
     numbered = numbered_alike look es is.numbered;

@@ -76,10 +76,10 @@ module _ {X : Type 0} (list_of : X → List Stored) (item : Item) where
   ]
 
   -- an entry that is empty changes no attachments when it comes
-  pub inserted : (es : List (Item × X)) (at : X) → list_of at ≡ [] → lookup (is_at (item_order item)) es ≡ None
+  pub inserts_empty : (es : List (Item × X)) (at : X) → list_of at ≡ [] → lookup (is_at (item_order item)) es ≡ None
       → rows_by list_of (insert_entry item_order es item at) ≡ rows_by list_of es
-  inserted [] at empty h = ap (λ l. map (row_on item) l ++ []) empty
-  inserted (e ∷ es) at empty h = by (item_order item e.0) refl (inserted es at empty)
+  inserts_empty [] at empty h = ap (λ l. map (row_on item) l ++ []) empty
+  inserts_empty (e ∷ es) at empty h = by (item_order item e.0) refl (inserts_empty es at empty)
     where
       by : (o : Ordering) → item_order item e.0 ≡ o
           → (lookup (is_at (item_order item)) es ≡ None → rows_by list_of (insert_entry item_order es item at) ≡ rows_by list_of es)

@@ -24,8 +24,8 @@ module _ {T : Type 0} (all : List (ℕ × List T)) (first : List (Sides T)) wher
     now_drafted : AreDrafted (get_or ways i w ∷ drop (i + 1) ways) lists
     now_drafted = subst (λ ws. AreDrafted ws lists) here g.drafted
 
-    pub within : (get_or ways i w).0 < length lists
-    within = now_drafted.0
+    pub is_within_lists : (get_or ways i w).0 < length lists
+    is_within_lists = now_drafted.0
 
     pub drafted_at : IsSome (sides_at lists (get_or ways i w).0).draft
     drafted_at = now_drafted.1

@@ -18,7 +18,7 @@ use Rattle.ifmap_graph.specs.Sides.{Sides}
 use Rattle.ifmap_graph.specs.Turning.{sides_at}
 use Rattle.ifmap_graph.proofs.Alike.{alike_equal}
 use Rattle.ifmap_graph.proofs.Brought.{brings_both, brings_none, there_still}
-use Rattle.ifmap_graph.proofs.Changed.{held_alike, names_alike, roomier}
+use Rattle.ifmap_graph.proofs.Changed.{held_alike, names_alike, holds_with_more_room}
 use Rattle.ifmap_graph.proofs.Marks.{marked_more, marked_none}
 use Rattle.ifmap_graph.proofs.Shelving.{Entries}
 use Rattle.ifmap_graph.specs.NumberLaws.{once_few}
@@ -55,7 +55,7 @@ pub grown_room : (names more : Holdings Identifier) (s : Shelves) (links longer 
     → ((v : ℕ) → sides_at longer v ≡ sides_at links v) → length links ≤ length longer → AreInside (graph_fields names s links)
     → AreGrown (graph_fields names s links) (graph_fields more s longer)
 grown_room names more s links longer live pool same long is = record {
-  inside = roomier names more live (get s.slots) s.places.entries links longer pool same long is;
+  inside = holds_with_more_room names more live (get s.slots) s.places.entries links longer pool same long is;
   now = refl;
   next = refl;
   bare = λ b. b;

@@ -24,7 +24,7 @@ use Rattle.ifmap_graph.specs.Named.{AreEnds, AreIdentifiers, AreNumbered, HasEnd
 use Rattle.ifmap_graph.specs.Shelved.{IsPlaced, StoredSide, list_at, rows_by}
 use Rattle.ifmap_graph.proofs.Alike.{alike_equal, equal_alike}
 use Rattle.ifmap_graph.proofs.Graphs.{graph_is}
-use Rattle.ifmap_graph.proofs.Viewed.{alone, apart, each, handled, linked_is_numbered, only}
+use Rattle.ifmap_graph.proofs.Viewed.{alone_on, links_apart, each_link, handle_leads, linked_is_numbered, only_links}
 use Rattle.ifmap_ident.specs.SameLaws.{BytesTellIdentifiers}
 
 -- the rows of shelves are those of their entries
@@ -93,8 +93,8 @@ module _ (names : Holdings Identifier) where
   number_found v id k n e t = e ∙ ap Some (t (ap identifier_bytes (same_Some k n.0.0 (sym e ∙ key_is v n.0 n.1))
       ∙ equal_alike n.0.0 id n.2))
 
-  pub single : IsPool identifier_order names → AreSingle (key_at names)
-  single p v w a b e f q = p.one_to_one v w b (names_by v a b e q) (names_by w b b f refl)
+  pub names_are_single : IsPool identifier_order names → AreSingle (key_at names)
+  names_are_single p v w a b e f q = p.one_to_one v w b (names_by v a b e q) (names_by w b b f refl)
 
   module _ (a b : Identifier) where
     ones_by : (e : the_ends.ItemEnds) → AreEnds names (One a) e → (v : ℕ) × IsNumber (key_at names) v a
@@ -157,8 +157,8 @@ module _ (names : Holdings Identifier) (look : ℕ → Option Shelf) (entries : 
       → list_at side (look seen.at) ≡ stored_linked (key_at names v) (key_at names seen.other)
       (rows_by (list_at side) (shown_shelves look entries))
   handle_of v seen c =
-      handled (λ at. list_at side (look at)) entries (key_at names) (λ at. joined_pair (look at)) links placed.rising placed.canon
-      (single names pool)
+      handle_leads (λ at. list_at side (look at)) entries (key_at names) (λ at. joined_pair (look at)) links placed.rising placed.canon
+      (names_are_single names pool)
       (are_joined names look entries used numbered) is.listed v seen c
       ∙ sym (ap (stored_linked (key_at names v) (key_at names seen.other)) (rows_shown side look entries))
 
@@ -167,23 +167,23 @@ module _ (names : Holdings Identifier) (look : ℕ → Option Shelf) (entries : 
     pub view_of : IsView (rows_by (λ at. list_at side (look at)) entries) (key_at names) links
     view_of =
         let j = are_joined names look entries used numbered
-        in let s = single names pool
+        in let s = names_are_single names pool
         in record {
           graph = graph_is (λ at. list_at side (look at)) entries placed.rising placed.canon is.lists;
           canon = keys;
           one_to_one = λ v w a e f. s v w a a e f refl;
-          alone = alone (λ at. list_at side (look at)) entries (key_at names)
+          alone = alone_on (λ at. list_at side (look at)) entries (key_at names)
               (λ at. joined_pair (look at)) links placed.rising placed.canon s
               j is.listed tells keys;
           linked = linked_is_numbered (λ at. list_at side (look at)) entries (key_at names)
               (λ at. joined_pair (look at)) links placed.rising placed.canon
               s j is.listed tells keys;
-          apart = λ v. apart (λ at. list_at side (look at)) entries (key_at names) (λ at. joined_pair (look at)) links placed.rising
+          apart = λ v. links_apart (λ at. list_at side (look at)) entries (key_at names) (λ at. joined_pair (look at)) links placed.rising
               placed.canon s j is.listed v (is.once v);
-          only = only (λ at. list_at side (look at)) entries (key_at names)
+          only = only_links (λ at. list_at side (look at)) entries (key_at names)
               (λ at. joined_pair (look at)) links placed.rising placed.canon s j
               is.listed;
-          each = each (λ at. list_at side (look at)) entries (key_at names)
+          each = each_link (λ at. list_at side (look at)) entries (key_at names)
               (λ at. joined_pair (look at)) links placed.rising placed.canon s j
               is.listed;
         }

@@ -21,7 +21,7 @@ use Rattle.ifmap_graph.proofs.Arriving.{numbered_comes}
 use Rattle.ifmap_graph.proofs.Brought.{bare_comes, brings_one}
 use Rattle.ifmap_graph.proofs.Changed.{inside_comes}
 use Rattle.ifmap_graph.proofs.Leaving.{comes}
-use Rattle.ifmap_graph.proofs.Shelving.{placed, same_rows, still_used}
+use Rattle.ifmap_graph.proofs.Shelving.{is_placed, same_rows, still_used}
 
 -- the shelf comes to a vacant slot, and the item to its place
 pub record Places (s t : Shelves) (item : Item) (at : ℕ) (shelf : Shelf) : Type 0 where
@@ -72,7 +72,7 @@ module _ {s t : Shelves} {item : Item} {at : ℕ} {shelf : Shelf} (p : Places s 
         → IsInside old (get s.slots) s.places.entries links → IsInside new (get t.slots) t.places.entries links
     placed_inside links room is =
         inside_comes old new (get s.slots) (get t.slots) s.places.entries t.places.entries links item at shelf is
-        (placed s.places.entries t.places.entries (get s.slots) (get t.slots) item at at shelf is.placed p.canon p.none refl p.vacant
+        (is_placed s.places.entries t.places.entries (get s.slots) (get t.slots) item at at shelf is.placed p.canon p.none refl p.vacant
         p.has p.empty p.others p.entries p.rises)
         (still_used s.places.entries t.places.entries (get s.slots) (get t.slots) item at at shelf is.placed p.canon p.none refl p.vacant
         p.has p.empty p.others p.entries p.rises is.used)

@@ -1,7 +1,7 @@
 -- Drafts of lists at places: one more, and one that grows.
 -- Plan: (1) the drafts at places, told by their ways back; (2) a draft comes at a place that had none (`ready_more`), or the one
 -- that is there changes (`ready_still`); (3) drafts go, one after another (`Dropping`), and at the end none is left
--- (`dropped`); (4) a list whose draft alone is set keeps what stands now (`set_touches`, `set_ready`).
+-- (`drops_drafts`); (4) a list whose draft alone is set keeps what stands now (`set_touches`, `set_ready`).
 use Rattle.std.proofs.Common.{◌≡◌, ◌≢◌, ◌⊎◌, ℕ, zero, suc, ◌+◌, ◌<◌, ◌≤◌, Option, None, IsSome, List, [], ◌∷◌, ◌++◌, length, get_or, set, drop, refl, ap, ◌∙◌, sym, subst, inl, inr, arith, add-one, drop-cons}
 use Rattle.std.proofs.lemmas.Bool.{cases_eq}
 use Rattle.std.proofs.lemmas.List.{drop_all, length-set}
@@ -169,10 +169,10 @@ drops_on first ways links later i w d h e kept others gone = record {
     here : drop i ways ≡ w ∷ drop (i + 1) ways
     here = drop-cons ways i w h ∙ ap (λ x. x ∷ drop (suc i) ways) (sym e) ∙ ap (λ n. w ∷ drop n ways) (sym (add-one i))
 
-pub dropped : (first : List (Sides LinkSeen)) (ways : List (ℕ × List LinkSeen)) (links : List (Sides LinkSeen)) (i : ℕ)
+pub drops_drafts : (first : List (Sides LinkSeen)) (ways : List (ℕ × List LinkSeen)) (links : List (Sides LinkSeen)) (i : ℕ)
     → Dropping first ways links i → length ways ≤ i
     → (v : ℕ) → (sides_at links v).draft ≡ None
-dropped first ways links i d h v = elim (d.left v) [
+drops_drafts first ways links i d h v = elim (d.left v) [
   | inl q ↦ q
   | inr q ↦ absurd (subst (λ ws. IsNamed ws v) (drop_all i ways h) q)
 ]

@@ -15,7 +15,7 @@ use Rattle.ifmap_ident.specs.declared.items.Item.{Item}
 use Rattle.ifmap_ident.specs.Items.{IsCanonItem, item_order}
 use Rattle.ifmap_graph.specs.declared.shelves.Shelf.{Shelf}
 use Rattle.ifmap_graph.specs.Shelved.{IsPlaced, ItemsRise, StoredSide, list_at, rows_by}
-use Rattle.ifmap_graph.proofs.Finding.{all_inserted, inserted, nothing_rises}
+use Rattle.ifmap_graph.proofs.Finding.{all_inserted, inserts_empty, nothing_rises}
 use Rattle.ifmap_lemmas.specs.Numbers.{equal_numbers}
 use Rattle.ifmap_lemmas.specs.Rising.{to_distinct}
 use Rattle.ifmap_view.specs.Attachments.{row_on}
@@ -124,8 +124,8 @@ module _ (es new : Entries) (look later : ℕ → Option Shelf) (item : Item) (a
   becomes : new ≡ insert_entry item_order es item at
   becomes = inserts ∙ ap (λ n. insert_entry item_order es item n) (sym here)
 
-  pub placed : IsPlaced later new
-  placed = record {
+  pub is_placed : IsPlaced later new
+  is_placed = record {
     rising = rises;
     canon = subst (λ l. AllByRecursion (λ e. IsCanonItem e.0) l) (sym becomes) (all_inserted (λ e. IsCanonItem e.0) es item at none
         is.canon canon);
@@ -140,7 +140,7 @@ module _ (es new : Entries) (look later : ℕ → Option Shelf) (item : Item) (a
       → rows_by (λ n. list_at side (later n)) new ≡ rows_by (λ n. list_at side (look n)) es
   same_rows side nothing =
       ap (rows_by (λ n. list_at side (later n))) becomes
-      ∙ inserted (λ n. list_at side (later n)) item es at (ap (list_at side) later_at ∙ ap side empty ∙ nothing) none
+      ∙ inserts_empty (λ n. list_at side (later n)) item es at (ap (list_at side) later_at ∙ ap side empty ∙ nothing) none
       ∙ rows_stay look later at vacant others side es is.live
 
   -- each shelf is an item's

@@ -72,11 +72,11 @@ module _ {T : Type 0} where
       ]) n
 
   -- what the ways back bring: the old list at a named place, and no change elsewhere
-  pub brought : (ws : List (ℕ × List T)) (ls xs : List (Sides T)) (v : ℕ) → AreDrafted ws ls → length xs ≡ length ls
+  pub brings_back : (ws : List (ℕ × List T)) (ls xs : List (Sides T)) (v : ℕ) → AreDrafted ws ls → length xs ≡ length ls
       → (IsNamed ws v × ((sides_at (restore_each (backs ws ls) xs) v).now ≡ (sides_at ls v).now)) ⊎ ((IsNamed ws v → ⊥)
       × (sides_at (restore_each (backs ws ls) xs) v ≡ sides_at xs v))
-  brought [] ls xs v d e = inr ((λ n. n), refl)
-  brought (w ∷ ws) ls xs v d e = elim (brought ws ls1 xs1 v d.2 lengths) [
+  brings_back [] ls xs v d e = inr ((λ n. n), refl)
+  brings_back (w ∷ ws) ls xs v d e = elim (brings_back ws ls1 xs1 v d.2 lengths) [
     | inl p ↦ elim step-ls [
       | inl q ↦ absurd (not_named ws ls1 v d.2 (ap (λ s. s.draft) q.1) p.0)
       | inr q ↦ inl (inr p.0, p.1 ∙ ap (λ s. s.now) q.1)
@@ -111,7 +111,7 @@ module _ {T : Type 0} where
 
   pub gone_again : (ws : List (ℕ × List T)) (ls : List (Sides T)) (v : ℕ) → AreDrafted ws ls → NoOthers ws ls
       → (sides_at (restore_each (backs ws ls) (accept_each ws ls)) v).now ≡ (sides_at ls v).now
-  gone_again ws ls v d n = elim (brought ws ls (accept_each ws ls) v d (same_length ws ls)) [
+  gone_again ws ls v d n = elim (brings_back ws ls (accept_each ws ls) v d (same_length ws ls)) [
     | inl p ↦ p.1
     | inr p ↦ ap (λ s. s.now) p.1 ∙ accepted_all ws ls v d n ∙ elim (n v) [
       | inl e ↦ sym (next_of_bare (sides_at ls v) e)

@@ -93,11 +93,11 @@ module _ (list_of : ℕ → List Stored) (entries : List (Item × ℕ)) (id_at :
   on_place at v w (inr j) = on_turned at v w j
 
   -- and so each handle leads to what is stored on its link
-  pub handled : (v : ℕ) (seen : LinkSeen) → Contains (links v) seen → list_of seen.at ≡ stored_linked (id_at v) (id_at seen.other) rows
-  handled v seen c = on_place seen.at v seen.other (listed.only v seen c).0
+  pub handle_leads : (v : ℕ) (seen : LinkSeen) → Contains (links v) seen → list_of seen.at ≡ stored_linked (id_at v) (id_at seen.other) rows
+  handle_leads v seen c = on_place seen.at v seen.other (listed.only v seen c).0
 
-  pub only : (v w : ℕ) → Contains (others (links v)) w → IsLink rows id_at v w
-  only v w c =
+  pub only_links : (v w : ℕ) → Contains (others (links v)) w → IsLink rows id_at v w
+  only_links v w c =
       let s = map_has (λ (l : LinkSeen). l.other) (links v) w (has_from _ _ c)
       in let l = listed.only v s.0 (from_has _ _ s.1)
       in subst (λ x. stored_linked (id_at v) (id_at x) rows ≢ []) s.2 (λ n. full_some (list_of s.0.at) l.1 (on_place s.0.at v s.0.other l.0
@@ -144,8 +144,8 @@ module _ (list_of : ℕ → List Stored) (entries : List (Item × ℕ)) (id_at :
           in slot_is_link v w x.0 (inr (x.3 ∙ ap Some (ap (λ k. (k, x.2)) (same_number x.1 w b x.4 q) ∙ ap (λ k. (w, k))
           (same_number x.2 v a x.5 p)))) x.6
 
-  pub each : (v w : ℕ) → IsLink rows id_at v w → Contains (others (links v)) w
-  each v w l = by (id_at v) (id_at w) refl refl l
+  pub each_link : (v w : ℕ) → IsLink rows id_at v w → Contains (others (links v)) w
+  each_link v w l = by (id_at v) (id_at w) refl refl l
     where
       by : (a b : Option Identifier) → id_at v ≡ a → id_at w ≡ b → stored_linked a b rows ≢ [] → Contains (others (links v)) w
       by None b p q n = absurd (n refl)
@@ -166,8 +166,8 @@ module _ (list_of : ℕ → List Stored) (entries : List (Item × ℕ)) (id_at :
         in let j = joined.ones t.0 at (subst (λ i. Has entries (i, at)) t.1 h.1)
         in (j.0, (j.1.0, j.1.1, j.1.2 ∙ t.2))
 
-    pub alone : (a : Identifier) → IsIdentifier a → stored_on (One a) rows ≢ [] → (v : ℕ) × (id_at v ≡ Some a)
-    alone a i n = let x = numbered a n _ refl in (x.0, exact x.0 a i x.1)
+    pub alone_on : (a : Identifier) → IsIdentifier a → stored_on (One a) rows ≢ [] → (v : ℕ) × (id_at v ≡ Some a)
+    alone_on a i n = let x = numbered a n _ refl in (x.0, exact x.0 a i x.1)
 
     pub linked_is_numbered : (a b : Identifier) → IsIdentifier b → stored_between a b rows ≢ [] → (w : ℕ) × (id_at w ≡ Some b)
     linked_is_numbered a b i n = by (identifier_order a b) refl
@@ -209,6 +209,6 @@ module _ (list_of : ℕ → List Stored) (entries : List (Item × ℕ)) (id_at :
   one_slot at bt v w (inr j) (inr k) = straight at bt w v j k
 
   -- so no other end is named twice, where no slot is
-  pub apart : (v : ℕ) → IsDistinct nat_eq (link_places (links v)) → IsDistinct nat_eq (others (links v))
-  apart v d = distinct_by (links v) d (λ l m h k e. one_slot l.at m.at v m.other
+  pub links_apart : (v : ℕ) → IsDistinct nat_eq (link_places (links v)) → IsDistinct nat_eq (others (links v))
+  links_apart v d = distinct_by (links v) d (λ l m h k e. one_slot l.at m.at v m.other
       (subst (λ w. JoinsNumbers joins l.at v w) e (listed.only v l (from_has _ _ h)).0) (listed.only v m (from_has _ _ k)).0)

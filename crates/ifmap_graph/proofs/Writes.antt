@@ -176,8 +176,8 @@ module _ (w : Write) where
       → get w.new bt ≡ get w.slots bt
   others_there x bt f e = elsewhere bt (other_slot w.es w.item w.at w.is.apart w.here x bt f e)
 
-  pub shelved : IsPlaced (get w.new) w.es
-  shelved = stays_placed (get w.slots) (get w.new) w.es w.is w.item w.at w.here elsewhere
+  pub is_shelved : IsPlaced (get w.new) w.es
+  is_shelved = stays_placed (get w.slots) (get w.new) w.es w.is w.item w.at w.here elsewhere
       (subst (λ (o : Option Shelf). IsSome o) (sym has) refl)
 
   pub side_stays : (side : StoredSide) → side w.later.stored ≡ side w.was.stored
@@ -187,9 +187,9 @@ module _ (w : Write) where
       ∙ sym (ap (list_at side) w.had))
 
   -- what was stored on what ties with the item
-  pub stood : (side : StoredSide) (x : Item) → is_at (item_order w.item) x ≡ true → side w.was.stored ≡ stored_on x
+  pub stood_on : (side : StoredSide) (x : Item) → is_at (item_order w.item) x ≡ true → side w.was.stored ≡ stored_on x
       (rows_by (λ n. list_at side (get w.slots n)) w.es)
-  stood side x e =
+  stood_on side x e =
       sym (ap (list_at side) w.had) ∙ entry_stores (λ n. list_at side (get w.slots n)) x w.es w.at w.is.rising (tied_here x e)
 
   -- what is stored on each item now
@@ -208,7 +208,7 @@ module _ (w : Write) where
       (rows_by (λ n. list_at side (get w.slots n)) w.es))
   comes side other e x = elim (cases_Bool (is_at (item_order w.item) x)) [
     | inl y ↦ rw y (on_item (get w.slots) (get w.new) w.es w.is w.item w.at w.here elsewhere side x y
-        ∙ ap (list_at side) has ∙ e ∙ stood other x y)
+        ∙ ap (list_at side) has ∙ e ∙ stood_on other x y)
     | inr f ↦ rw f (on_others (get w.slots) (get w.new) w.es w.is w.item w.at w.here elsewhere side x f)
   ]
 

@@ -19,8 +19,8 @@ module _ {E : Type 0} where
         whole = b.whole ∙ ap (λ xs. xs ++ b.rest) a.whole ∙ append_assoc h.log a.rest b.rest;
       }
 
-  pub longer : (h k : HallHistory E) (a : Extends h k) → length k.log ≡ length h.log + length a.rest
-  longer h k a = ap length a.whole ∙ length-append h.log a.rest
+  pub log_length : (h k : HallHistory E) (a : Extends h k) → length k.log ≡ length h.log + length a.rest
+  log_length h k a = ap length a.whole ∙ length-append h.log a.rest
 
   pub ordered_again : (h k : HallHistory E) → Ordered h k → Ordered k h
   ordered_again h k (inl a) = inr a
@@ -29,13 +29,13 @@ module _ {E : Type 0} where
   -- the later of two is the one that extends the other
   pub later_extends : (h k : HallHistory E) → Ordered h k → is_later h k ≡ true → Extends h k
   later_extends h k (inl a) e = a
-  later_extends h k (inr a) e = let x = a.from in let l = longer k h a in absurd (grind (arith, nat_tests))
+  later_extends h k (inr a) e = let x = a.from in let l = log_length k h a in absurd (grind (arith, nat_tests))
 
   pub earlier_extends : (h k : HallHistory E) → Ordered h k → is_later h k ≡ false → Extends k h
   earlier_extends h k (inr a) e = a
   earlier_extends h k (inl a) e =
       let x = a.from in
-      let l = longer h k a in
+      let l = log_length h k a in
       let none : a.rest ≡ [] = nil_from_length a.rest (grind (arith, nat_tests)) in
       record {
         from = grind (arith, nat_tests);

@@ -17,7 +17,7 @@ use Rattle.ifmap_hall.specs.declared.view.SeatView.{SeatView}
 use Rattle.ifmap_hall.specs.declared.view.Stage.TheVariants.{Idle}
 use Rattle.ifmap_hall.specs.declared.view.Terms.{Terms}
 use Rattle.ifmap_hall.proofs.Cutting.{Stems, stems_ordered}
-use Rattle.ifmap_hall.proofs.Extending.{extends-itself, longer, later_extends, earlier_extends}
+use Rattle.ifmap_hall.proofs.Extending.{extends-itself, log_length, later_extends, earlier_extends}
 use Rattle.std.proofs.lemmas.Bool.{true≢false}
 use Rattle.ifmap_lemmas.specs.Elements.{place_within}
 use Rattle.ifmap_lemmas.specs.Sums.{sum_set, two_within_sum}
@@ -116,8 +116,8 @@ module _ {M E R : Type 0} (next : M → E → M) (weight : E → ℕ) where
         let g = k.fit other u there part_u in
         let late : HallHistory E = (joint_seat s u).view.history in
         let fits = late_fits late joint.one in
-        let long_s = longer s.view.history late joint.this in
-        let long_u = longer u.view.history late joint.that in
+        let long_s = log_length s.view.history late joint.this in
+        let long_u = log_length u.view.history late joint.that in
         subst (λ (y : SeatView M E R). SeatFits terms k.history k.served k.drawn y) e (record {
           terms_are = f.terms_are;
           sound = record {

@@ -16,7 +16,7 @@ use Rattle.ifmap_hall.specs.declared.view.SeatView.{SeatView}
 use Rattle.ifmap_hall.specs.declared.view.Terms.{Terms}
 use Rattle.ifmap_hall.proofs.Changes.{Goes, seat_goes, holder_has_ticket}
 use Rattle.ifmap_hall.proofs.Drawing.{ticket_after, has_part, holder_served}
-use Rattle.ifmap_hall.proofs.Extending.{extends-itself, extends-through, gains_rest, longer}
+use Rattle.ifmap_hall.proofs.Extending.{extends-itself, extends-through, gains_rest, log_length}
 use Rattle.ifmap_hall.proofs.Places.{gains_places, gains_rise, rises_le}
 
 module _ {E : Type 0} where
@@ -52,8 +52,8 @@ module _ {M E R : Type 0} (next : M → E → M) (weight : E → ℕ) (reply : M
         let grown : Extends taken after = gives_extends s.view.terms taken b g in
         let grown' : Extends k.history after = subst (λ (h : HallHistory E). Extends h after) same grown in
         let len : length taken.log ≡ length k.history.log = ap (λ (h : HallHistory E). length h.log) same in
-        let long = longer taken after grown in
-        let seen = longer s.view.history k.history f.extends in
+        let long = log_length taken after grown in
+        let seen = log_length s.view.history k.history f.extends in
         let near = g.near in
         record {
           sits = sits;

@@ -18,7 +18,7 @@ use Rattle.ifmap_hall.specs.declared.view.SeatView.{SeatView}
 use Rattle.ifmap_hall.specs.declared.view.Terms.{Terms}
 use Rattle.ifmap_hall.specs.declared.view.HallView.{HallView}
 use Rattle.ifmap_hall.proofs.CarryingOn.{run-append}
-use Rattle.ifmap_hall.proofs.Extending.{extends-itself, longer}
+use Rattle.ifmap_hall.proofs.Extending.{extends-itself, log_length}
 use Rattle.ifmap_hall.proofs.Places.{times-merge, rises_once}
 
 module _ {M E : Type 0} (next : M → E → M) where
@@ -28,7 +28,7 @@ module _ {M E : Type 0} (next : M → E → M) where
       let le = x.from in
       let l : length (drop h.from h.log) ≡ length h.log - h.from = length-drop h.from h.log in
       let m : length (drop k.from k.log) ≡ length k.log - k.from = length-drop k.from k.log in
-      let n = longer h k x in
+      let n = log_length h k x in
       let up : h.from + (k.from - h.from) ≡ k.from = omega arith in
       record {
         from = le;

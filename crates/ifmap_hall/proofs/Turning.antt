@@ -25,7 +25,7 @@ use Rattle.ifmap_hall.specs.declared.book.Book.{Book}
 use Rattle.ifmap_hall.specs.declared.view.HallHistory.{HallHistory}
 use Rattle.ifmap_hall.specs.declared.view.HallView.{HallView}
 use Rattle.ifmap_hall.proofs.CarryingOn.{run-append}
-use Rattle.ifmap_hall.proofs.Extending.{extends-through, longer}
+use Rattle.ifmap_hall.proofs.Extending.{extends-through, log_length}
 use Rattle.ifmap_lemmas.specs.Fronts.{front_again, joined_up, rest_again}
 use Rattle.ifmap_hall.proofs.Places.{gains_rise, rises_le}
 use Rattle.ifmap_lemmas.specs.Lists.{cut_same}
@@ -134,7 +134,7 @@ module _ {M E R : Type 0} (next : M → E → M) (weight : E → ℕ) (holds_on 
           → Gives next weight v.terms h b'
       gives_by more book limits g few =
           let near = g.near in
-          let long = longer h (history_in h b') (extends_by more g) in
+          let long = log_length h (history_in h b') (extends_by more g) in
           let front : take b'.from (history_in h b').log ≡ take b'.from h.log = front_again b'.from h.log b'.journal.items near in
           let rest : drop b'.from (history_in h b').log ≡ b'.journal.items = rest_again b'.from h.log b'.journal.items near in
           record {
@@ -154,8 +154,8 @@ module _ {M E R : Type 0} (next : M → E → M) (weight : E → ℕ) (holds_on 
       took_by : (more : List (ℕ × E)) → Grew more → GainsAtMostOne [] more → TookATurn v (view_after next reply v h b')
       took_by more g few =
           let near = g.near in
-          let long = longer h (history_in h b') (extends_by more g) in
-          let seen = longer v.history h found.extends in
+          let long = log_length h (history_in h b') (extends_by more g) in
+          let seen = log_length v.history h found.extends in
           record {
             terms = refl;
             lone = refl;
@@ -190,7 +190,7 @@ module _ {M E R : Type 0} (next : M → E → M) (weight : E → ℕ) (holds_on 
       said_by number place event r g at numbered free answer =
           let gained : drop (length h.log) (history_in h b').log ≡ (number, event) ∷ [] = ap (drop (length h.log)) g.all
           ∙ drop-append_seam h.log ((number, event) ∷ []) in
-          let seen = longer v.history h found.extends in
+          let seen = log_length v.history h found.extends in
           let near = g.near in
           record {
             before = h.log;

@@ -17,5 +17,5 @@ typed_parts v4_size e (IpV4 value domain) p = v4_size p.text value p.means
 typed_parts v4_size e (IpV6 value domain) p = ip_v6_fits p.text value p.means
 typed_parts v4_size e (MacAddress value domain) p = record { number = p.means.six; below = p.means.bytes }
 
-pub typed : ((text value : List ℕ) → IsIpV4 text value → AreBelow 256 4 value) → (i : Identifier) → IsIdentifier i → IsTyped i
-typed v4_size i is = typed_parts v4_size is.element i is.canon.meant.parts
+pub is_typed : ((text value : List ℕ) → IsIpV4 text value → AreBelow 256 4 value) → (i : Identifier) → IsIdentifier i → IsTyped i
+is_typed v4_size i is = typed_parts v4_size is.element i is.canon.meant.parts

@@ -13,9 +13,9 @@ pub refuses_by : (e : LexError) (P Q : Type 0) → (Q → P) → Refuses e P →
 refuses_by Malformed P Q f r = λ q. r (f q)
 refuses_by NoMemory P Q f r = tt
 
-pub each : (p : ℕ → Bool) (xs : List ℕ) → list_all p xs ≡ true → AllAre p xs
-each p [] h = tt
-each p (x ∷ xs) h = let parts = and_parts (p x) (list_all p xs) h in (parts.0, each p xs parts.1)
+pub all_are : (p : ℕ → Bool) (xs : List ℕ) → list_all p xs ≡ true → AllAre p xs
+all_are p [] h = tt
+all_are p (x ∷ xs) h = let parts = and_parts (p x) (list_all p xs) h in (parts.0, all_are p xs parts.1)
 
 pub of_each : (p : ℕ → Bool) (xs : List ℕ) → AllAre p xs → list_all p xs ≡ true
 of_each p [] h = refl

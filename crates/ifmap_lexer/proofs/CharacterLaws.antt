@@ -12,11 +12,11 @@ use Rattle.std.proofs.lemmas.List.{take_more}
 use Rattle.ifmap_elem.specs.Chars.{AllAre, IsCharacters, is_character}
 use Rattle.ifmap_lemmas.specs.Members.{all_append}
 use Rattle.ifmap_lexer.specs.Common.{is_common}
-use Rattle.ifmap_lexer.proofs.Basics.{each, of_each, all_front, all_back}
+use Rattle.ifmap_lexer.proofs.Basics.{all_are, of_each, all_front, all_back}
 
 pub tells_characters : (text : List ℕ) (r : Bool) → IsUtf8 text → r ≡ list_all is_character (chars text) → IsTrue r ↔ IsCharacters text
 tells_characters text r u e = (
-  (λ t. (chars text, encodes-chars text u, each is_character (chars text) (sym e ∙ t))),
+  (λ t. (chars text, encodes-chars text u, all_are is_character (chars text) (sym e ∙ t))),
   (λ i. e ∙ ap (list_all is_character) (sym (chars_from_encodes i.0 text u i.1)) ∙ of_each is_character i.0 i.2),
 )
 

@@ -18,7 +18,7 @@ use Rattle.ifmap_lemmas.specs.Numbers.{is_other}
 use Rattle.ifmap_elem.specs.laws.NameBytes.{is_part_byte, name_are_bytes, name_part_bytes, part_is_some, is_name_byte}
 use Rattle.ifmap_lexer.specs.Cutting.{Cuts, CutsAt, is_but}
 use Rattle.ifmap_lexer.specs.Names.{stands_in_ascii, starts_in_ascii}
-use Rattle.ifmap_lexer.proofs.Basics.{each, of_each, all_back}
+use Rattle.ifmap_lexer.proofs.Basics.{all_are, of_each, all_back}
 use Rattle.ifmap_lexer.specs.There.{NameAt}
 
 high_start : (c : ℕ) → 0xD800 ≤ c → is_name_start c ≡ true → scalar c ≡ true
@@ -88,7 +88,7 @@ module _ (text rest : List ℕ) (first : ℕ) (split : text ≡ encode_utf8 firs
           others = chars rest;
           bytes_are = ap (λ x. encode_utf8 first ++ x) (encodes-chars rest v) ∙ sym split;
           begins = begins;
-          goes_on = each is_name_character (chars rest) (sym e ∙ t);
+          goes_on = all_are is_name_character (chars rest) (sym e ∙ t);
         }),
         (λ p. let same = encode_same p.first first (encode_utf8_all p.others) rest (p.bytes_are ∙ split) in
             e ∙ ap (list_all is_name_character) (sym (chars_from_encodes p.others rest v same.1))

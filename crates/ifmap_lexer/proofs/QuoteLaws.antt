@@ -60,8 +60,8 @@ module _ (bytes before sign : List ℕ) (c : Cuts is_white bytes before sign) wh
           let tail : inside ≡ w ++ (t.quote ∷ r) = cc in
           subst (λ (n : ℕ). inside ≡ w ++ (n ∷ r)) same tail
 
-      pub unclosed : AllAre (is_but quote) inside → (w r : List ℕ) → TakesQuoted bytes w r → ⊥
-      unclosed f w r t = not_lacked quote inside w r (inside_is w r t) f
+      pub no_quote_takes : AllAre (is_but quote) inside → (w r : List ℕ) → TakesQuoted bytes w r → ⊥
+      no_quote_takes f w r t = not_lacked quote inside w r (inside_is w r t) f
 
       pub quoted_found : (w r : List ℕ) → CutsAt quote inside w r → TakesQuoted bytes w r
       quoted_found w r k = record {

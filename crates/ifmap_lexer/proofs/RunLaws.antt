@@ -15,9 +15,9 @@ use Rattle.ifmap_lexer.proofs.Basics.{all_front, all_back}
 no_break : (b : ℕ) → is_but tab b ≡ true → is_but line_feed b ≡ true → as_space b ≡ b
 no_break b h g = rw (not-true (b == tab) h, not-true (b == line_feed) g) refl
 
-pub untabbed : (xs : List ℕ) → AllAre (is_but tab) xs → AllAre (is_but line_feed) xs → map as_space xs ≡ xs
-untabbed [] f g = refl
-untabbed (x ∷ xs) f g = λ i. no_break x f.0 g.0 i ∷ untabbed xs f.1 g.1 i
+pub keeps_without_breaks : (xs : List ℕ) → AllAre (is_but tab) xs → AllAre (is_but line_feed) xs → map as_space xs ≡ xs
+keeps_without_breaks [] f g = refl
+keeps_without_breaks (x ∷ xs) f g = λ i. no_break x f.0 g.0 i ∷ keeps_without_breaks xs f.1 g.1 i
 
 module _ (rest front after : List ℕ) where
   pub tab_step : CutsAt tab rest front after → AllAre (is_but line_feed) rest
@@ -25,7 +25,7 @@ module _ (rest front after : List ℕ) where
   tab_step c g =
       ap (map as_space) c.bytes_are ∙ map-append as_space front (tab ∷ after)
       ∙ ap (λ x. x ++ (space_character ∷ map as_space after))
-      (untabbed front c.passes (all_front (is_but line_feed) front (tab ∷ after) (subst (AllAre (is_but line_feed)) c.bytes_are g)))
+      (keeps_without_breaks front c.passes (all_front (is_but line_feed) front (tab ∷ after) (subst (AllAre (is_but line_feed)) c.bytes_are g)))
 
   pub after_tab : CutsAt tab rest front after → AllAre (is_but line_feed) rest → AllAre (is_but line_feed) after
   after_tab c g = (all_back (is_but line_feed) front (tab ∷ after) (subst (AllAre (is_but line_feed)) c.bytes_are g)).1

@@ -10,7 +10,7 @@ use Rattle.ifmap_lexer.specs.Runs.{line_in, part_in}
 use Rattle.ifmap_elem.specs.declared.escaping.TextPlace.{TextPlace}
 use Rattle.ifmap_elem.specs.declared.escaping.TextPlace.TheVariants.{Value, Content}
 use Rattle.ifmap_lexer.proofs.ExpansionLaws.{along_start, along_end}
-use Rattle.ifmap_lexer.proofs.RunLaws.{break_end, untabbed}
+use Rattle.ifmap_lexer.proofs.RunLaws.{break_end, keeps_without_breaks}
 
 no_reference : (b : ℕ) → is_verbatim b ≡ true → is_but ampersand b ≡ true
 no_reference b h = grind (arith, nat_tests)
@@ -27,7 +27,7 @@ no_tab b h = grind (arith, nat_tests)
 line_same : (place : TextPlace) (xs : List ℕ) → AllAre is_verbatim xs → line_in place xs ≡ xs
 line_same Content xs f = refl
 line_same Value xs f =
-    untabbed xs (all_weaker is_verbatim (is_but tab) no_tab xs f) (all_weaker is_verbatim (is_but line_feed) no_newline xs f)
+    keeps_without_breaks xs (all_weaker is_verbatim (is_but tab) no_tab xs f) (all_weaker is_verbatim (is_but line_feed) no_newline xs f)
 
 part_same : (place : TextPlace) (xs : List ℕ) → AllAre is_verbatim xs → part_in place (Plain xs) ≡ xs
 part_same place xs f = break_end place xs (all_weaker is_verbatim (is_but carriage_return) no_return xs f) ∙ line_same place xs f

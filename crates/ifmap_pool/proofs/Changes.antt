@@ -14,7 +14,7 @@ use Rattle.ifmap_pool.specs.declared.slots.HeldKey.{HeldKey}
 use Rattle.ifmap_pool.proofs.Live.{live_keys-set, live_keys-removed}
 use Rattle.ifmap_pool.proofs.Kept.{IsKeyIndex-written, IsKeyIndex-inserted, IsKeyIndex-removed}
 use Rattle.ifmap_pool.proofs.Named.{Shows, same_holdings, entry_is, entry_known, is_pool, pool_kept, absent_at}
-use Rattle.ifmap_pool.proofs.Emptiness.{one_of, slot_within, written, count_written}
+use Rattle.ifmap_pool.proofs.Emptiness.{one_of, slot_within, writes_slot, count_written}
 
 module _ {K : Type 0} where
   -- what contracts see
@@ -39,8 +39,8 @@ module _ {K : Type 0} where
 
   module _ {cmp : K → K → Ordering} {slots : List (Option (HeldKey K))} {free order : List ℕ} {len limit : ℕ}
       (kept : IsKept cmp slots free order len limit) {pool : Holdings K} (is : holdings_of slots len limit ≡ pool) where
-    pub shown : Shows slots pool
-    shown = record { live = sym (ap (λ (p : Holdings K). p.live) is) }
+    pub shows_pool : Shows slots pool
+    shows_pool = record { live = sym (ap (λ (p : Holdings K). p.live) is) }
 
     spare_is : limit - len ≡ pool.spare
     spare_is = ap (λ (p : Holdings K). p.spare) is
@@ -54,18 +54,18 @@ module _ {K : Type 0} where
 
     module _ (total : IsTotalOrder cmp) where
       pub whole_now : IsPool cmp pool
-      whole_now = is_pool shown total kept.indexed (omega (arith, kept.within, limit_is))
+      whole_now = is_pool shows_pool total kept.indexed (omega (arith, kept.within, limit_is))
 
       -- the same keys, under a limit that is no lower
       pub whole_after : (new : Holdings K) → new.live ≡ live_keys slots → limit ≤ new.limit → IsPool cmp new
-      whole_after new same le = pool_kept cmp pool new (same ∙ sym shown.live) (omega (arith, le, limit_is)) whole_now
+      whole_after new same le = pool_kept cmp pool new (same ∙ sym shows_pool.live) (omega (arith, le, limit_is)) whole_now
 
       -- where a key is missed there is room for it
       pub room_for_new : (key : K) (place : ℕ) → IsKeyPlace cmp (slot_at slots) order key (Err place)
           → (0 < pool.spare) ⊎ IsPresent cmp pool key → slot_count slots < limit
       room_for_new key place missing (inl some) = omega (arith, some, spare_is, kept.counted)
       room_for_new key place missing (inr present) =
-          absurd (absent_at shown total kept.indexed key place missing present.0 present.1)
+          absurd (absent_at shows_pool total kept.indexed key place missing present.0 present.1)
 
       -- the count of a number becomes another
       module _ (number : ℕ) (old : HeldKey K) (was : slot_at slots number ≡ Some old) (counts : ℕ → ℕ) (some : 0 < counts old.holds)
@@ -75,7 +75,7 @@ module _ {K : Type 0} where
 
         is_written : Writes slots after number (Some key_after)
         is_written = subst (λ (s : List (Option (HeldKey K))). Writes slots s number (Some key_after)) (sym wrote)
-            (written slots number (Some key_after) (slot_within slots number (is_some_of _ old was)))
+            (writes_slot slots number (Some key_after) (slot_within slots number (is_some_of _ old was)))
 
         kept_write : IsKept cmp after free order len limit
         kept_write = record {
@@ -95,7 +95,7 @@ module _ {K : Type 0} where
             → holdings_of after len limit ≡ record pool { live = map.insert pool.live number (entry.0, counts entry.1) }
         seen_write entry there =
             subst (λ (x : K × ℕ). holdings_of after len limit ≡ record pool { live = map.insert pool.live number (x.0, counts x.1) })
-            (entry_known shown number old entry was there)
+            (entry_known shows_pool number old entry was there)
             (same_holdings _ _
             (live_keys-set slots after number key_after is_written.changed is_written.others
             ∙ ap (λ (p : Holdings K). map.insert p.live number (key_after.key, key_after.holds)) is)
@@ -127,7 +127,7 @@ module _ {K : Type 0} where
 
         seen_take : TakesNumber pool (holdings_of after longer limit) number key
         seen_take = record {
-          free = entry_is shown number ∙ ap (option_map entry_of) vacant;
+          free = entry_is shows_pool number ∙ ap (option_map entry_of) vacant;
           live = live_keys-set slots after number once_held writes.changed writes.others
               ∙ ap (λ (p : Holdings K). map.insert p.live number (key, 1)) is;
           spare = omega (arith, spare_is, long, room, kept.counted);

@@ -21,9 +21,9 @@ module _ {K : Type 0} where
       → slot_count (set slots number slot) + one_of (slot_at slots number) ≡ slot_count slots + one_of slot
   count_written slots number slot within = sum_by-set one_of slots number slot None within
 
-  pub written : (slots : List (Option (HeldKey K))) (number : ℕ) (slot : Option (HeldKey K)) → number < length slots
+  pub writes_slot : (slots : List (Option (HeldKey K))) (number : ℕ) (slot : Option (HeldKey K)) → number < length slots
       → Writes slots (set slots number slot) number slot
-  written slots number slot within = record {
+  writes_slot slots number slot within = record {
     changed = get_or-set_same slots number slot None within;
     others = λ other differs. get_or-set_other slots number other slot None differs;
   }

@@ -89,29 +89,29 @@ module _ {K : Type 0} {cmp : K → K → Ordering} (total : IsTotalOrder cmp) wh
       | inr h ↦ inr (h.1.free, entry_put new old number (key, 1) h.1.live)
     ]
 
-    pub named : Names cmp new number key
-    named = elim change [
+    pub names_key : Names cmp new number key
+    names_key = elim change [
       | inl p ↦ ((p.0.0, p.0.1 + 1), p.3, p.2)
       | inr p ↦ ((key, 1), p.1, tied_itself total key)
     ]
 
-    pub present : (given : ℕ) → Names cmp old given key → (number ≡ given) × HoldsAgain old new given
-    present given names = elim more.holds [
+    pub holds_again : (given : ℕ) → Names cmp old given key → (number ≡ given) × HoldsAgain old new given
+    holds_again given names = elim more.holds [
       | inl h ↦ let same = more.before.one_to_one number given key h.0 names in (same, subst (λ (n : ℕ). HoldsAgain old new n) same h.1)
       | inr h ↦ absurd (h.0 given names)
     ]
 
-    pub absent : IsAbsent cmp old key → TakesNumber old new number key
-    absent none = elim more.holds [ inl h ↦ absurd (none number h.0) | inr h ↦ h.1 ]
+    pub takes_number : IsAbsent cmp old key → TakesNumber old new number key
+    takes_number none = elim more.holds [ inl h ↦ absurd (none number h.0) | inr h ↦ h.1 ]
 
-    pub counted : holds_at new number ≡ holds_at old number + 1
-    counted = elim change [
+    pub count_rises : holds_at new number ≡ holds_at old number + 1
+    count_rises = elim change [
       | inl p ↦ let now = holds_of new number (p.0.0, p.0.1 + 1) p.3 in let then = holds_of old number p.0 p.1 in omega (arith, now, then)
       | inr p ↦ let now = holds_of new number (key, 1) p.1 in let then = holds_none old number p.0 in omega (arith, now, then)
     ]
 
-    pub others : (other : ℕ) → other ≢ number → entry_at new other ≡ entry_at old other
-    others other differs = elim more.holds [
+    pub others_same : (other : ℕ) → other ≢ number → entry_at new other ≡ entry_at old other
+    others_same other differs = elim more.holds [
       | inl h ↦ let n = h.0 in entry_other new old number other (n.0.0, n.0.1 + 1) (ap (λ (p : Holdings K). p.live) (h.1 n.0 n.1)) differs
       | inr h ↦ entry_other new old number other (key, 1) h.1.live differs
     ]
@@ -123,7 +123,7 @@ module _ {K : Type 0} {cmp : K → K → Ordering} (total : IsTotalOrder cmp) wh
             ((p.0.0, p.0.1 + 1), ap (entry_at new) same ∙ p.3, ap (λ (e : K × ℕ). cmp e.0 other) (sym one) ∙ names.2)
         | inr p ↦ absurd (none-some names.0 (sym p.0 ∙ ap (entry_at old) (sym same) ∙ names.1))
       ]
-      | inr differs ↦ (names.0, others v differs ∙ names.1, names.2)
+      | inr differs ↦ (names.0, others_same v differs ∙ names.1, names.2)
     ]
 
     pub spare_left : old.spare ≤ new.spare + 1
@@ -135,37 +135,37 @@ module _ {K : Type 0} {cmp : K → K → Ordering} (total : IsTotalOrder cmp) wh
     pub limit_same : new.limit ≡ old.limit
     limit_same = elim more.holds [ inl h ↦ ap (λ (p : Holdings K). p.limit) (h.1 h.0.0 h.0.1) | inr h ↦ h.1.limit ]
 
-    pub below : (v : ℕ) → holds_at new v ≤ holds_at old v + 1
-    below v = elim (cases_eq v number) [
-      | inl same ↦ let p : holds_at new v ≡ holds_at old v + 1 = ap (holds_at new) same ∙ counted ∙ ap (λ x. holds_at old x + 1) (sym
+    pub one_more_at_most : (v : ℕ) → holds_at new v ≤ holds_at old v + 1
+    one_more_at_most v = elim (cases_eq v number) [
+      | inl same ↦ let p : holds_at new v ≡ holds_at old v + 1 = ap (holds_at new) same ∙ count_rises ∙ ap (λ x. holds_at old x + 1) (sym
           same) in omega (arith, p)
-      | inr differs ↦ let p = holds_same new old v (others v differs) in omega (arith, p)
+      | inr differs ↦ let p = holds_same new old v (others_same v differs) in omega (arith, p)
     ]
 
     -- the same by keys
-    pub held : (other : K) (n : ℕ) → IsHeld cmp old other n → IsHeld cmp new other (n + once cmp key other)
-    held other n (inl h) = elim (tied_or_not key other) [
+    pub held_by_keys : (other : K) (n : ℕ) → IsHeld cmp old other n → IsHeld cmp new other (n + once cmp key other)
+    held_by_keys other n (inl h) = elim (tied_or_not key other) [
       | inl tie ↦
           let one = once_tied key other tie in
           let same : h.0 ≡ number = more.whole.one_to_one h.0 number other (keeps_names h.0 other h.1) (
-            named.0,
-            named.1,
-            tied_on named.0.0 key other
-                named.2 tie,
+            names_key.0,
+            names_key.1,
+            tied_on names_key.0.0 key other
+                names_key.2 tie,
           ) in
-          let now : holds_at new h.0 ≡ holds_at old h.0 + 1 = ap (holds_at new) same ∙ counted ∙ ap (λ x. holds_at old x + 1) (sym same)
+          let now : holds_at new h.0 ≡ holds_at old h.0 + 1 = ap (holds_at new) same ∙ count_rises ∙ ap (λ x. holds_at old x + 1) (sym same)
           in
           inl (h.0, keeps_names h.0 other h.1, omega (arith, now, h.2, one))
       | inr differs ↦
           let none = once_apart key other differs in
           let kept_now = keeps_names h.0 other h.1 in
           let elsewhere : h.0 ≢ number = λ same.
-          let entry : kept_now.0 ≡ named.0 = same_Some _ _ (sym kept_now.1 ∙ ap (entry_at new) same ∙ named.1) in
-          differs (tied_through named.0.0 key other named.2 (ap (λ (e : K × ℕ). cmp e.0 other) (sym entry) ∙ kept_now.2)) in
-          let now = holds_same new old h.0 (others h.0 elsewhere) in
+          let entry : kept_now.0 ≡ names_key.0 = same_Some _ _ (sym kept_now.1 ∙ ap (entry_at new) same ∙ names_key.1) in
+          differs (tied_through names_key.0.0 key other names_key.2 (ap (λ (e : K × ℕ). cmp e.0 other) (sym entry) ∙ kept_now.2)) in
+          let now = holds_same new old h.0 (others_same h.0 elsewhere) in
           inl (h.0, kept_now, omega (arith, now, h.2, none))
     ]
-    held other n (inr h) = elim (tied_or_not key other) [
+    held_by_keys other n (inr h) = elim (tied_or_not key other) [
       | inl tie ↦
           let one = once_tied key other tie in
           elim change [
@@ -179,9 +179,9 @@ module _ {K : Type 0} {cmp : K → K → Ordering} (total : IsTotalOrder cmp) wh
           inr (
             (λ v names. elim (cases_eq v number) [
               | inl same ↦
-                  let entry : names.0 ≡ named.0 = same_Some _ _ (sym names.1 ∙ ap (entry_at new) same ∙ named.1) in
-                  differs (tied_through named.0.0 key other named.2 (ap (λ (e : K × ℕ). cmp e.0 other) (sym entry) ∙ names.2))
-              | inr apart_ones ↦ h.0 v (names.0, sym (others v apart_ones) ∙ names.1, names.2)
+                  let entry : names.0 ≡ names_key.0 = same_Some _ _ (sym names.1 ∙ ap (entry_at new) same ∙ names_key.1) in
+                  differs (tied_through names_key.0.0 key other names_key.2 (ap (λ (e : K × ℕ). cmp e.0 other) (sym entry) ∙ names.2))
+              | inr apart_ones ↦ h.0 v (names.0, sym (others_same v apart_ones) ∙ names.1, names.2)
             ]),
             omega (arith, h.1, none),
           )

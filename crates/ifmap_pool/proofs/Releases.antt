@@ -32,20 +32,20 @@ module _ {K : Type 0} {old new : Holdings K} {number : ℕ} (goes : LetsOneGo ol
         (arith, one, more, h.0))
   ]
 
-  pub last : holds_at old number ≡ 1 → Frees old new number
-  last one = elim goes.2 [
+  pub frees_last : holds_at old number ≡ 1 → Frees old new number
+  frees_last one = elim goes.2 [
     | inl h ↦ let had = holds_of old number goes.0 goes.1 in absurd (omega (arith, had, one, h.0))
     | inr h ↦ h.1
   ]
 
-  pub counted : holds_at new number + 1 ≡ holds_at old number
-  counted = let had = holds_of old number goes.0 goes.1 in elim change [
+  pub count_falls : holds_at new number + 1 ≡ holds_at old number
+  count_falls = let had = holds_of old number goes.0 goes.1 in elim change [
     | inl p ↦ let now = holds_none new number p.1 in omega (arith, now, had, p.0)
     | inr p ↦ let now = holds_of new number (goes.0.0, goes.0.1 - 1) p.1 in omega (arith, now, had, p.0)
   ]
 
-  pub others : (other : ℕ) → other ≢ number → entry_at new other ≡ entry_at old other
-  others other differs = elim goes.2 [
+  pub others_same : (other : ℕ) → other ≢ number → entry_at new other ≡ entry_at old other
+  others_same other differs = elim goes.2 [
     | inl h ↦ entry_other new old number other (goes.0.0, goes.0.1 - 1) (ap (λ (p : Holdings K). p.live) (h.1 goes.0 goes.1 h.0)) differs
     | inr h ↦ ap (λ l. get l other) h.1.live ∙ get-remove nat_cmp_total old.live number other ∙ ap (λ b. cond b None (get old.live
         other)) (others_untied other number differs)
@@ -74,8 +74,8 @@ module _ {K : Type 0} {old new : Holdings K} {number : ℕ} (goes : LetsOneGo ol
           tied_through total mine.0.0 key other mine.2 (ap (λ (k : K). cmp k other) (sym one) ∙ names.2)
     ]
 
-    pub held : (other : K) (n : ℕ) → IsHeld cmp old other n → IsHeld cmp new other (n - once cmp key other)
-    held other n (inl h) = elim (tied_or_not total key other) [
+    pub held_by_keys : (other : K) (n : ℕ) → IsHeld cmp old other n → IsHeld cmp new other (n - once cmp key other)
+    held_by_keys other n (inl h) = elim (tied_or_not total key other) [
       | inl tie ↦
           let one = once_tied total key other tie in
           let same : h.0 ≡ number = before.one_to_one h.0 number other h.1 (mine.0, mine.1, tied_on total mine.0.0 key other mine.2 tie)
@@ -86,7 +86,7 @@ module _ {K : Type 0} {old new : Holdings K} {number : ℕ} (goes : LetsOneGo ol
             | inl p ↦ inr (
               (λ v names. elim (cases_eq v number) [
                 | inl at ↦ none-some names.0 (sym p.1 ∙ ap (entry_at new) (sym at) ∙ names.1)
-                | inr elsewhere ↦ elsewhere (before.one_to_one v number other (names.0, sym (others v elsewhere) ∙ names.1, names.2)
+                | inr elsewhere ↦ elsewhere (before.one_to_one v number other (names.0, sym (others_same v elsewhere) ∙ names.1, names.2)
                     (mine.0, mine.1, tied_on total mine.0.0 key other mine.2 tie))
               ]),
               omega (arith, one, had, was, p.0),
@@ -99,17 +99,17 @@ module _ {K : Type 0} {old new : Holdings K} {number : ℕ} (goes : LetsOneGo ol
                   ap (λ (e : K × ℕ). cmp e.0 other) my_entry ∙ tied_on total mine.0.0 key other mine.2
                       tie,
                 )) in
-                inl (number, names, omega (arith, one, had, counted))
+                inl (number, names, omega (arith, one, had, count_falls))
           ]
       | inr differs ↦
           let none = once_apart total key other differs in
           let elsewhere : h.0 ≢ number = λ same.
           let entry_same : h.1.0 ≡ mine.0 = same_Some _ _ (sym h.1.1 ∙ ap (entry_at old) same ∙ mine.1) in
           differs (tied_through total mine.0.0 key other mine.2 (ap (λ (e : K × ℕ). cmp e.0 other) (sym entry_same) ∙ h.1.2)) in
-          let now = holds_same new old h.0 (others h.0 elsewhere) in
-          inl (h.0, (h.1.0, others h.0 elsewhere ∙ h.1.1, h.1.2), omega (arith, now, h.2, none))
+          let now = holds_same new old h.0 (others_same h.0 elsewhere) in
+          inl (h.0, (h.1.0, others_same h.0 elsewhere ∙ h.1.1, h.1.2), omega (arith, now, h.2, none))
     ]
-    held other n (inr h) = inr (
+    held_by_keys other n (inr h) = inr (
       (λ v names. elim (cases_eq v number) [
         | inl same ↦ h.0 number (
           mine.0,
@@ -117,7 +117,7 @@ module _ {K : Type 0} {old new : Holdings K} {number : ℕ} (goes : LetsOneGo ol
           tied_on total mine.0.0 key other mine.2 (later_key other (subst (λ (x : ℕ). Names cmp
               new x other) same names)),
         )
-        | inr elsewhere ↦ h.0 v (names.0, sym (others v elsewhere) ∙ names.1, names.2)
+        | inr elsewhere ↦ h.0 v (names.0, sym (others_same v elsewhere) ∙ names.1, names.2)
       ]),
       omega (arith, h.1),
     )

@@ -27,7 +27,7 @@ use Rattle.ifmap_view.specs.Attachments.{stored_bytes, stored_order}
 use Rattle.ifmap_publish.specs.Working.{EditMakes, IsEdit, IsSound, list_by}
 use Rattle.ifmap_publish.specs.declared.edits.Edit.{Edit}
 use Rattle.ifmap_publish.proofs.Attaching.{sound_filter}
-use Rattle.ifmap_publish.proofs.Rising.{among_filter, difference_stays, parted, put_back, put_filtered, put_unfiltered}
+use Rattle.ifmap_publish.proofs.Rising.{among_filter, difference_stays, parts_join, put_back, put_filtered, put_unfiltered}
 use Rattle.ifmap_publish.proofs.Same.{elements_one}
 
 -- ---- what makes an edit make a list
@@ -110,7 +110,7 @@ module _ (stored list : List Stored) (e e2 : Edit) (up : IsStrictlySortedBy stor
       makes_by t (λ r. q r || eq_by_cmp stored_order row r) stored (put stored_order row list) e2 up s
       (taken ∙ m.taken)
       (came ∙ ap (put stored_order row) m.put ∙ sym (put_filtered q row list))
-      (m.stays ∙ ap (filter (λ r. not (q r))) (sym (parted row list m.sound.keyed.rising apart)) ∙ sym (put_unfiltered q row list))
+      (m.stays ∙ ap (filter (λ r. not (q r))) (sym (parts_join row list m.sound.keyed.rising apart)) ∙ sym (put_unfiltered q row list))
 
 -- ---- keys
 

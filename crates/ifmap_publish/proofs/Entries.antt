@@ -145,9 +145,9 @@ one_more rows by ops i op low at old new so now x =
     now x ∙ ap (apply_op_on x by op) (so x) ∙ sym (op_told x (apply rows by (take i ops)) by op)
     ∙ ap (stored_on x) (sym (ap (apply rows by) more ∙ apply_push rows by (take i ops) op))
 
-pub unchanged : (by : Authorship) (op : PublishOp) (x : Item) (list : List Stored) → ((l : List Stored) → op_on by op l ≡ l)
+pub keeps_list : (by : Authorship) (op : PublishOp) (x : Item) (list : List Stored) → ((l : List Stored) → op_on by op l ≡ l)
     → list ≡ apply_op_on x by op list
-unchanged by op x list stays = elim (cases_Bool (same_item (op_item op) x)) [
+keeps_list by op x list stays = elim (cases_Bool (same_item (op_item op) x)) [
   | inl is ↦ rw is (sym (stays list))
   | inr is ↦ rw is refl
 ]

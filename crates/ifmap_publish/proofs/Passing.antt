@@ -35,11 +35,11 @@ pub itself_from : (row : Stored) → IsFrom row row
 itself_from row = ap is_lt (tied_itself stored_total row)
 
 -- the first is passed
-pub passed : (row : Stored) (rest after rows : List Stored) → IsStrictlySortedBy stored_order rest
+pub passes_first : (row : Stored) (rest after rows : List Stored) → IsStrictlySortedBy stored_order rest
     → (first : Stored) × (rest ≡ first ∷ after) × (stored_order first row ≡ Less)
     → ((s : Stored) → IsFrom row s → list_any (same_stored s) rest ≡ list_any (same_stored s) rows)
     → IsStrictlySortedBy stored_order after × ((s : Stored) → IsFrom row s → list_any (same_stored s) after ≡ list_any (same_stored s) rows)
-passed row rest after rows up (first, is, e) same = (
+passes_first row rest after rows up (first, is, e) same = (
   (sorted_first first after (subst (IsStrictlySortedBy stored_order) is up)).1,
   λ s from. sym (ap (λ b. b || list_any (same_stored s) after)
       (greater_differs s first (less_turned stored_total first s (below_from first row s e from))))

@@ -143,11 +143,11 @@ module _ (q : Stored → Bool) (row : Stored) (xs : List Stored) where
       ∙ sym (filter-append (λ s. not (q s)) lower upper)
 
 -- where none ties, all are below or above
-pub parted : (row : Stored) (xs : List Stored) → IsStrictlySortedBy stored_order xs
+pub parts_join : (row : Stored) (xs : List Stored) → IsStrictlySortedBy stored_order xs
     → AllByRecursion (λ s. is_eq (stored_order s row) ≡ false) xs
     → filter (λ y. is_lt (stored_order y row)) xs ++ filter (λ y. is_gt (stored_order y row)) xs ≡ xs
-parted row [] up apart = refl
-parted row (x ∷ xs) up apart = by (stored_order x row) refl (parted row xs (sorted_first x xs up).1 apart.1)
+parts_join row [] up apart = refl
+parts_join row (x ∷ xs) up apart = by (stored_order x row) refl (parts_join row xs (sorted_first x xs up).1 apart.1)
   where
     greater : stored_order x row ≡ Greater → (y : Stored) → stored_order x y ≡ Less → stored_order y row ≡ Greater
     greater e y l = less_is_greater row y (stored_total.trans row x y (greater_turned stored_total x row e) l)

@@ -17,11 +17,11 @@ use Rattle.ifmap_reader.specs.declared.errors.ReadError.TheVariants.{Unreadable,
 use Rattle.ifmap_reader.specs.Reads.{AreCanonical, GivesBack, IsRead}
 
 module _ (bytes : List ℕ) (depth : ℕ) where
-  pub fit : (a : Result Reading ReadError) → IsRead bytes depth a → IfOk a (λ r. IsFit r.root)
-  fit (Ok r) h = (spelled_fits bytes r h.0).0
-  fit (Err (Unreadable at)) h = tt
-  fit (Err (TooDeep at)) h = tt
-  fit (Err NoMemory) h = tt
+  pub root_is_fit : (a : Result Reading ReadError) → IsRead bytes depth a → IfOk a (λ r. IsFit r.root)
+  root_is_fit (Ok r) h = (spelled_fits bytes r h.0).0
+  root_is_fit (Err (Unreadable at)) h = tt
+  root_is_fit (Err (TooDeep at)) h = tt
+  root_is_fit (Err NoMemory) h = tt
 
   gives : (a : Result Reading ReadError) → IsRead bytes depth a → (e : Element) → Spells bytes (canonical_reading e)
       → nesting (arrange e) ≤ depth → GivesBack e a

@@ -218,8 +218,8 @@ module _ (bytes : List ℕ) (depth : ℕ) (w : Where) (rest : List ℕ) (at : At
     pub none_deep : (end_at place : ℕ) → end_at ≡ offset bytes rest → Deep bytes depth place → ⊥
     none_deep end_at place is d = not_deep bytes depth end_at place (stopped end_at is) at.shallow d
 
-    pub whole : (r : Reading) → IsDocumentFrom w [] r → Spells bytes r
-    whole r x = record {
+    pub spells_whole : (r : Reading) → IsDocumentFrom w [] r → Spells bytes r
+    spells_whole r x = record {
       tokens = at.so_far;
       lexed = subst (λ (b : List ℕ). To TakesToken (without_byte_order_mark bytes) at.so_far b) end at.lexed;
       document = subst (λ (us : List Token). IsDocument us r) (append-nil at.so_far) ((at.goes [] r).1 x);
@@ -307,7 +307,7 @@ end_read bytes depth s place result at within end made = subst (λ (a : Result R
         ended_early bytes depth (Within (reverse open_elements)) (drop place bytes) a none_left (no_tokens (reverse open_elements)) place
         (here (Within (reverse open_elements)) a)
     by (standing.Done r) a = (
-      whole bytes depth (AfterRoot r.value) (drop place bytes) a none_left r.value (after_root_ends r.value),
+      spells_whole bytes depth (AfterRoot r.value) (drop place bytes) a none_left r.value (after_root_ends r.value),
       a.fits,
       λ deep d. none_deep bytes depth
           (AfterRoot r.value) (drop place bytes) a none_left place deep (here (AfterRoot r.value) a) d,

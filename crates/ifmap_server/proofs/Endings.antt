@@ -12,32 +12,32 @@ use Rattle.ifmap_server.specs.Ends.{IsLaterMoment, SourceAndSink, source_and_sin
 use Rattle.ifmap_server.specs.Taking.{TakesBytes}
 use Rattle.ifmap_server.specs.Turns.{BeginsNone, Replaying, IsReplayTurn}
 use Rattle.ifmap_server.proofs.Pieces.{keeps_prefix}
-use Rattle.ifmap_server.proofs.Progress.{Progress, fault_part, fault_told, part, unread, unwritten}
+use Rattle.ifmap_server.proofs.Progress.{Progress, fault_part, fault_told, part, answers_taken, answers_part}
 use Rattle.ifmap_io.specs.Rises.{rose_since}
 
 -- no frame was taken: the turn ends as the taking did
-pub untaken : {X T : Type 0} (e : ReplayError) (left : X → Option (List ℕ)) (faults : X → ℕ) (source_old source_new : X)
+pub turn_takes_nothing : {X T : Type 0} (e : ReplayError) (left : X → Option (List ℕ)) (faults : X → ℕ) (source_old source_new : X)
     (held : Option (List ℕ)) (writes : ℕ) (old new : Replaying)
     → TakesBytes {T = T} left faults (source_old, old.pending) (source_new, new.pending) (Err e)
     → (e ≡ FrameFault → IfSome (left source_new) (λ rest. (new.pending ++ rest ≢ []) × BeginsNone old.offset (new.pending ++ rest)))
     → (e ≡ ReadFault → IsAwaited old.offset new.pending) → e ≢ WriteFault → new.offset ≡ old.offset
     → IsReplayTurn (Err e) (source_and_sink (left source_old) (faults source_old) held writes)
     (source_and_sink (left source_new) (faults source_new) held writes) old new
-untaken FrameFault left faults source_old source_new held writes old new takes fault read not same =
+turn_takes_nothing FrameFault left faults source_old source_new held writes old new takes fault read not same =
     (record { taken = new.pending; takes = takes.taken; fault = fault refl; kept = Keeps-refl held }, same)
-untaken ReadFault left faults source_old source_new held writes old new takes fault read not same =
+turn_takes_nothing ReadFault left faults source_old source_new held writes old new takes fault read not same =
     record { taken = new.pending; takes = takes.taken; awaited = read refl; kept = Keeps-refl held; cause = takes.rose }
-untaken WriteFault left faults source_old source_new held writes old new takes fault read not same = absurd (not refl)
-untaken NoMemory left faults source_old source_new held writes old new takes fault read not same = Keeps-refl held
+turn_takes_nothing WriteFault left faults source_old source_new held writes old new takes fault read not same = absurd (not refl)
+turn_takes_nothing NoMemory left faults source_old source_new held writes old new takes fault read not same = Keeps-refl held
 
 module _ (before mid after : SourceAndSink) (now new : Replaying) (p : Progress before mid now) where
   -- any error but that of a frame ends the replay
   pub error_ends : (e : ReplayError) → e ≢ FrameFault → IsReplayTurn (Err e) mid after now new → ReplayPromises (Err e) before after
   error_ends FrameFault not t = absurd (not refl)
   error_ends ReadFault not t =
-      (unread before mid after now p t, rose_since before.read_faults mid.read_faults after.read_faults p.later.read t.cause)
+      (answers_taken before mid after now p t, rose_since before.read_faults mid.read_faults after.read_faults p.later.read t.cause)
   error_ends WriteFault not t =
-      (unwritten before mid after now p t, rose_since before.write_faults mid.write_faults after.write_faults p.later.write t.cause)
+      (answers_part before mid after now p t, rose_since before.write_faults mid.write_faults after.write_faults p.later.write t.cause)
   error_ends NoMemory not t = part before mid after now p t
 
   -- a frame is at fault, and its offset is told

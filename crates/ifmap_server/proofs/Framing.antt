@@ -90,11 +90,11 @@ line_more bytes more place is = record { early = is.early; first = first_place_s
 abbrev unread : Meaning
 unread = Err Unreadable
 
-pub framed : (offset : ℕ) (bytes : List ℕ) (place : ℕ) (there : TakenFrame) → IsHeaderLineEnd bytes place
+pub is_framed : (offset : ℕ) (bytes : List ℕ) (place : ℕ) (there : TakenFrame) → IsHeaderLineEnd bytes place
     → IsHeader (take place bytes) there.header
     → there.start ≡ place + 1 → there.end ≡ there.start + there.header.size
     → there.end ≤ length bytes → offset + there.end ≤ longest_script → IsFramed offset bytes there
-framed offset bytes place there is header start end within ends =
+is_framed offset bytes place there is header start end within ends =
     let h = there.header in
     let body = slice_range bytes there.start there.end in
     let early = is.first.within in
@@ -171,7 +171,7 @@ module _ (offset : ℕ) (left_old left : Option (List ℕ)) (mid new : List ℕ)
       (line_more mid took.got place is) in
       let front : take place mid ≡ take place new = sym (take-append-le place mid took.got (omega arith))
       ∙ ap (take place) (sym took.grown) in
-      framed offset new place (record { header = h; start = place + 1; end = place + 1 + h.size }) line (subst
+      is_framed offset new place (record { header = h; start = place + 1; end = place + 1 + h.size }) line (subst
       (λ (b : List ℕ). IsHeader b h) front header) refl refl within ends
 
 -- ---- a read that is due

@@ -1,7 +1,7 @@
 -- A replay so far: the frames that were answered, and what they make of the frames that are left.
 -- `framed` and `unframed` go from a script of what is left to one of all bytes, and back: back because bodies have one meaning. So
--- what ends in all bytes read speaks of the frames that were answered (`over`, `unread`, `fault_told`), and what ends before speaks
--- of each output of the bytes (`unwritten`, `part`, `fault_part`).
+-- what ends in all bytes read speaks of the frames that were answered (`answers_all`, `answers_taken`, `fault_told`), and what ends before speaks
+-- of each output of the bytes (`answers_part`, `part`, `fault_part`).
 use Rattle.std.proofs.Common.{◌≡◌, ◌≢◌, ℕ, ◌+◌, List, [], ◌∷◌, ◌++◌, length, drop, None, Some, IfSome, refl, sym, ap, subst, ◌∙◌, append_assoc, append-nil, arith}
 use Rattle.std.proofs.lemmas.Option.{IfSome_then}
 use Rattle.std.specs.Prelude.{Option}
@@ -122,8 +122,8 @@ module _ (before mid after : SourceAndSink) (now : Replaying) (p : Progress befo
       a.begins.text)
       ∙ drop_at text (new.pending ++ more) (length text) refl
 
-  pub next : (new : Replaying) → AnswersFrame mid after now new → IsLaterMoment mid after → Progress before after new
-  next new a later =
+  pub reaches_next : (new : Replaying) → AnswersFrame mid after now new → IsLaterMoment mid after → Progress before after new
+  reaches_next new a later =
       let f = a.frame in
       let got = a.takes.got in
       record {
@@ -196,8 +196,8 @@ module _ (before mid after : SourceAndSink) (now : Replaying) (p : Progress befo
   took_more : (got : List ℕ) → Consumes mid.left after.left got → Consumes before.left after.left (p.taken ++ got)
   took_more got consumed = Consumes-trans before.left mid.left after.left p.taken got p.consumed consumed
 
-  pub over : IsOver mid after now → AnswersAll before after
-  over o =
+  pub answers_all : IsOver mid after now → AnswersAll before after
+  answers_all o =
       let got = o.takes.got in
       let taken = p.taken ++ got in
       let consumed = took_more got o.takes.consumed in
@@ -209,8 +209,8 @@ module _ (before mid after : SourceAndSink) (now : Replaying) (p : Progress befo
         (p.done ++ [], script, subst (Appends before.held after.held) (sym same_done) (wrote_kept o.kept)),
       )
 
-  pub unread : IsUnread mid after now → AnswersTaken before after
-  unread u =
+  pub answers_taken : IsUnread mid after now → AnswersTaken before after
+  answers_taken u =
       let got = u.takes.got in
       let here = script_here now.offset (p.taken ++ got) u.taken (p.place got ∙ sym u.takes.grown) u.awaited in
       let script = p.framed got [] here.0 (subst (λ (bytes : List ℕ). IsScriptFrom now.offset bytes [] here.0) u.takes.grown here.1) in (
@@ -225,8 +225,8 @@ module _ (before mid after : SourceAndSink) (now : Replaying) (p : Progress befo
   rest_text frames fault = ap (λ (x : List ℕ). x ++ fault_line fault) (p.told frames)
       ∙ append_assoc (answers p.done) (answers_from now.state frames) (fault_line fault)
 
-  pub unwritten : IsUnwritten mid after now → AnswersPart before after
-  unwritten u =
+  pub answers_part : IsUnwritten mid after now → AnswersPart before after
+  answers_part u =
       let got = u.takes.got in
       let f = u.frame in
       let b = (step_frame now.state f).1 in

@@ -21,7 +21,7 @@ use Rattle.ifmap_changes.specs.ifmap_session.Sessions.{is_named}
 use Rattle.ifmap_changes.specs.ifmap_session.laws.TextLaws.{text_itself}
 use Rattle.ifmap_changes.specs.ifmap_standing.declared.standing.Standing.{Standing}
 use Rattle.ifmap_subscribes.proofs.OfNames.{one_fewer}
-use Rattle.ifmap_subscribes.proofs.Renamed.{IsTold, added, begun_more, room_is_noted, rename_more}
+use Rattle.ifmap_subscribes.proofs.Renamed.{IsTold, adds_renaming, begun_more, room_is_noted, rename_more}
 use Rattle.ifmap_subscribes.specs.Readying.{AreCounted, AreReadied, CanStand, IsAdded, IsNoted, IsSmall, most_ops, told_after}
 use Rattle.ifmap_subscribes.specs.Renamings.{IsNameNow, IsOfSession, starts_by, rename, rename_all}
 use Rattle.ifmap_subscribes.specs.declared.names.NameNow.{NameNow}
@@ -87,7 +87,7 @@ module _ {serial : ℕ} {t : Told} {old mid : Readying} {name : List ℕ} {now :
     counted_more : r.name ≡ name → IsOfSession serial r → IsTold r → IsSmall r → length mid.made.items < most_ops
         → (now.stands ≡ false → old.count + length (option_to_list r.standing) ≤ 1000) → AreCounted serial t new
     counted_more same s told small few room =
-        added serial t mid new mid_counted now r s told a (subst (λ x. IsNameNow serial x (told_after serial mid t) now) (sym same) mid_now)
+        adds_renaming serial t mid new mid_counted now r s told a (subst (λ x. IsNameNow serial x (told_after serial mid t) now) (sym same) mid_now)
         small few (λ free. omega (arith, room free, h.noted.count))
 
     pub readied_more : (p : Parts) → r.name ≡ name → IsOfSession serial r → IsTold r → IsSmall r → length mid.made.items < most_ops

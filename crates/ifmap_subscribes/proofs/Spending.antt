@@ -1,4 +1,4 @@
--- The steps of a subscribe. First those of a search, on a graph that shows the same (`spanned`, `spanned_as`). Then those of one operation
+-- The steps of a subscribe. First those of a search, on a graph that shows the same (`within_span`, `spanned_as`). Then those of one operation
 -- and of the rest are those of all (`one_more`), or they stop there (`one_stops`).
 use Rattle.std.proofs.Common.{◌≡◌, ◌∙◌, ◌<◌, ap, inr, refl, sym, subst, ℕ, suc, ◌+◌, add-one, List, ◌∷◌, drop, drop-cons, length, get_or}
 use Rattle.ifmap_changes.specs.Between.{IsSeen, sight_now}
@@ -13,10 +13,10 @@ use Rattle.ifmap_subscribes.specs.Bounds.{AreOpsWithin, IsOpWithin, IsWithinSpan
 use Rattle.ifmap_changes.specs.ifmap_view.declared.attachments.Attachment.{Attachment}
 
 -- a search that is the same as another, on a graph
-pub spanned : (h : GraphInside) (times : ℕ) (s asked : Search) (before after : ℕ) → IsSeen h → s ≡ asked
+pub within_span : (h : GraphInside) (times : ℕ) (s asked : Search) (before after : ℕ) → IsSeen h → s ≡ asked
     → IsWithin (λ v. length (links_now h v)) (IsReachedAt (rows_now h) (key_at h.names) s) times before after
     → IsWithinSpan times (rows_now h) asked before after
-spanned h times s asked before after seen is w =
+within_span h times s asked before after seen is w =
     inr (
       sight_now h,
       refl,

@@ -32,8 +32,8 @@ pub parts_size : (p : PollItem → Bool) (xs ys : List PollItem)
 parts_size p xs ys = ap queue_size (filter-append p xs ys) ∙ sum_by-append poll_size (filter p xs) (filter p ys)
 
 -- a least value that is the size
-pub exact : (size most : ℕ) → size ≤ most → min size most ≡ size
-exact size most low = omega (arith, low)
+pub min_is_exact : (size most : ℕ) → size ≤ most → min size most ≡ size
+min_is_exact size most low = omega (arith, low)
 
 -- a queue within its limit has a size of few bits
 pub queue_few : (live : List Session) (serial : ℕ) (s : Session) → AllByRecursion (λ x. is_overfull x ≡ false) live
@@ -133,7 +133,7 @@ module _ (tellings : Tellings) (serial : ℕ) (live : List Session) (s : Session
         let both = sum_by-append poll_size s.queue items in
         let part = part_within (is_named name) items in
         let fits : named ≡ queue_size (filter (is_named name) items) =
-        second ∙ exact (queue_size (filter (is_named name) items)) (2 ^ 64 - 1) (omega (arith, all, low, both, part)) in
+        second ∙ min_is_exact (queue_size (filter (is_named name) items)) (2 ^ 64 - 1) (omega (arith, all, low, both, part)) in
         let sizes = parts_size (is_named name) s.queue items in
         let told : queue_size (filter (is_named name) (s.queue ++ items)) ≡ queue_size (filter (is_named name) (tell_by tellings s).queue) =
         ap (λ (t : Session). queue_size (filter (is_named name) t.queue))

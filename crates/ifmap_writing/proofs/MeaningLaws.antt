@@ -139,11 +139,11 @@ abbrev err_result : Refusal → Result Request Refusal
 err_result refused = Err refused
 
 -- what is answered to bytes that mean a request
-pub answered : OneMeaning → (bytes : List ℕ) (r : Request) → Means bytes (Ok r) → (result : Result Request Refusal)
+pub answers_meaning : OneMeaning → (bytes : List ℕ) (r : Request) → Means bytes (Ok r) → (result : Result Request Refusal)
     → IsBodyAnswer bytes result → MatchResult result (λ read. read ≡ r) (λ error. error ≡ refusal.NoMemory)
-answered one bytes r m (Ok other) a = let same : ok_result other ≡ ok_result r = one bytes (ok_result other) (ok_result r) a m in cc
-answered one bytes r m (Err (refusal.Named code)) a =
+answers_meaning one bytes r m (Ok other) a = let same : ok_result other ≡ ok_result r = one bytes (ok_result other) (ok_result r) a m in cc
+answers_meaning one bytes r m (Err (refusal.Named code)) a =
     let wrong : err_result (refusal.Named code) ≡ ok_result r = one bytes (err_result (refusal.Named code)) (ok_result r) a m in cc
-answered one bytes r m (Err refusal.Unreadable) a =
+answers_meaning one bytes r m (Err refusal.Unreadable) a =
     let wrong : err_result refusal.Unreadable ≡ ok_result r = one bytes (err_result refusal.Unreadable) (ok_result r) a m in cc
-answered one bytes r m (Err refusal.NoMemory) a = refl
+answers_meaning one bytes r m (Err refusal.NoMemory) a = refl

@@ -102,8 +102,8 @@ module _ (rows : List Attachment) (id_at : ℕ → Option Identifier) (links : �
               ∙ ap Some other,
         )
 
-    pub symmetric : IsSymmetric (Linked count link)
-    symmetric v w l =
+    pub links_are_symmetric : IsSymmetric (Linked count link)
+    links_are_symmetric v w l =
         matches_linked w v (subst (λ xs. one_meets filter xs ≡ true) (linked_turned (id_at v) (id_at w) rows) (linked_matches v w l))
 
     pub no_loop : (v : ℕ) → Linked count link v v → ⊥

@@ -23,8 +23,8 @@ module _ (old sorted new : List Item) (moved : IsPermutation old sorted) (in_ord
   pub rises : IsStrictlySortedBy item_order new
   rises = subst (IsStrictlySortedBy item_order) (sym new_is) (IsStrictlySortedBy-dedup items_total items_tie sorted in_order)
 
-  pub came : (x : Item) → Has new x → Has old x
-  came x h =
+  pub came_from : (x : Item) → Has new x → Has old x
+  came_from x h =
       has_from old x (Contains-permutation sorted old x (IsPermutation-sym old sorted moved)
       (Contains-from_dedup same_item sorted x (subst (λ l. Contains l x) new_is (from_has new x h))))
 

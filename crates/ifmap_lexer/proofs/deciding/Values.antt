@@ -10,7 +10,7 @@ use Rattle.ifmap_lexer.specs.Cutting.{Cuts, CutsAt}
 use Rattle.ifmap_lexer.specs.Runs.{part_in}
 use Rattle.ifmap_elem.specs.declared.escaping.TextPlace.{TextPlace}
 use Rattle.ifmap_lexer.proofs.ExpansionLaws.{Along, along_start, along_unended, along_unknown, along_next, along_end}
-use Rattle.ifmap_lexer.proofs.QuoteLaws.{no_quote_at, no_sign, no_quote, unclosed, quoted_found}
+use Rattle.ifmap_lexer.proofs.QuoteLaws.{no_quote_at, no_sign, no_quote, no_quote_takes, quoted_found}
 use Rattle.ifmap_lexer.proofs.deciding.Runs.{cut_of, cut_or_none}
 
 abbrev pub SomeQuoted : List ℕ → Type 0
@@ -25,7 +25,7 @@ module _ (bytes before sign : List ℕ) (c : Cuts is_white bytes before sign) (r
   value_or_none (q ∷ inside) d = elim (cases_Bool (q == double_quote || q == single_quote)) [
     | inl g ↦ elim (cut_or_none q inside) [
       | inl k ↦ inl (k.0, k.1, quoted_found bytes before sign c rest after (q ∷ inside) e d q inside refl g k.0 k.1 k.2)
-      | inr none ↦ inr (none_quoted (unclosed bytes before sign c rest after (q ∷ inside) e d q inside refl g none))
+      | inr none ↦ inr (none_quoted (no_quote_takes bytes before sign c rest after (q ∷ inside) e d q inside refl g none))
     ]
     | inr g ↦ inr (none_quoted (no_quote bytes before sign c rest after (q ∷ inside) e d (no_quote_at q inside (q ∷ inside) refl g)))
   ]

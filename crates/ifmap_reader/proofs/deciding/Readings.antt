@@ -16,7 +16,7 @@ use Rattle.ifmap_elem.specs.laws.OneToken.{no_token, one_token}
 use Rattle.ifmap_reader.specs.Progress.{Where, AtStart, Within, AfterRoot}
 use Rattle.ifmap_reader.specs.Reads.{IsRead, IsTooDeep, IsUnreadable}
 use Rattle.ifmap_reader.proofs.Goings.{no_tokens, no_tokens_start, after_root_ends}
-use Rattle.ifmap_reader.proofs.Progressing.{At, at_start, at_next, ended_early, none_deep, not_lexed, step_refused, step_too_deep, whole}
+use Rattle.ifmap_reader.proofs.Progressing.{At, at_start, at_next, ended_early, none_deep, not_lexed, step_refused, step_too_deep, spells_whole}
 use Rattle.ifmap_reader.proofs.deciding.Steps.{Goes, goes}
 
 -- how a reading comes out
@@ -39,7 +39,7 @@ module _ (token_or_none : (bytes : List ℕ) → Decided ((t : Token) × (rest :
     at_end rest end (AfterRoot r) at = inl (
       r,
       (
-        whole bytes depth (AfterRoot r) rest at end r (after_root_ends r),
+        spells_whole bytes depth (AfterRoot r) rest at end r (after_root_ends r),
         at.fits,
         λ place d. none_deep bytes depth (AfterRoot r) rest at end (offset bytes rest) place refl d,
       ),

@@ -1,4 +1,4 @@
-use Rattle.ifmap_core.proofs.InSession.{another, ends_own, ends_own_within, no_ends, nobody}
+use Rattle.ifmap_core.proofs.InSession.{refuses_another, ends_own, ends_own_within, no_ends, refuses_nobody}
 use Rattle.ifmap_core.proofs.answering.end_session.Goals as goal
 use Rattle.ifmap_subscribes.specs.ifmap_machine.Step.{end_session}
 
@@ -10,11 +10,11 @@ returns-in_ok-take_away_one-in-Own-clause-leads g c =
 
 pub returns-in-Another-clause-leads : goal.returns-in-Another-clause-leads
 returns-in-Another-clause-leads g c =
-    another c.requires c.args.id.now end_session c.in-Another.ensures c.refuse.result c.refuse.ensures
+    refuses_another c.requires c.args.id.now end_session c.in-Another.ensures c.refuse.result c.refuse.ensures
 
 pub returns-in-Nobody-clause-leads : goal.returns-in-Nobody-clause-leads
 returns-in-Nobody-clause-leads g c =
-    nobody c.requires c.args.id.now end_session c.in-Nobody.ensures c.refuse-in-Nobody.result c.refuse-in-Nobody.ensures
+    refuses_nobody c.requires c.args.id.now end_session c.in-Nobody.ensures c.refuse-in-Nobody.result c.refuse-in-Nobody.ensures
 
 pub returns-in_ok-take_away_one-in-Own-clause-steps : goal.returns-in_ok-take_away_one-in-Own-clause-steps
 returns-in_ok-take_away_one-in-Own-clause-steps g c =

@@ -1,4 +1,4 @@
-use Rattle.ifmap_core.proofs.InSession.{another, no_publishes, nobody, publishes_own, publishes_own_within}
+use Rattle.ifmap_core.proofs.InSession.{refuses_another, no_publishes, refuses_nobody, publishes_own, publishes_own_within}
 use Rattle.ifmap_core.proofs.answering.publish.Goals as goal
 use Rattle.ifmap_subscribes.specs.ifmap_machine.Step.{publish}
 
@@ -10,12 +10,12 @@ returns-in_ok-publish-in-Own-clause-leads g c =
 
 pub returns-in-Another-clause-leads : goal.returns-in-Another-clause-leads
 returns-in-Another-clause-leads g c =
-    another c.requires.can c.args.wish.now.id.now (λ state. publish state c.args.wish.now.asked.now) c.in-Another.ensures
+    refuses_another c.requires.can c.args.wish.now.id.now (λ state. publish state c.args.wish.now.asked.now) c.in-Another.ensures
     c.refuse.result c.refuse.ensures
 
 pub returns-in-Nobody-clause-leads : goal.returns-in-Nobody-clause-leads
 returns-in-Nobody-clause-leads g c =
-    nobody c.requires.can c.args.wish.now.id.now (λ state. publish state c.args.wish.now.asked.now) c.in-Nobody.ensures
+    refuses_nobody c.requires.can c.args.wish.now.id.now (λ state. publish state c.args.wish.now.asked.now) c.in-Nobody.ensures
     c.refuse-in-Nobody.result c.refuse-in-Nobody.ensures
 
 pub returns-in_ok-publish-in-Own-clause-steps : goal.returns-in_ok-publish-in-Own-clause-steps

@@ -4,7 +4,7 @@ use Rattle.ifmap_subscribes.specs.ifmap_changes.Between.{Asking}
 use Rattle.ifmap_subscribes.specs.ifmap_changes.Bounds.{IsTakenWithin}
 use Rattle.ifmap_core.specs.Answering.{IsCaseWithin}
 use Rattle.ifmap_core.specs.Bounds.{IsWithinIf}
-use Rattle.ifmap_core.proofs.InSession.{another, no_purges, nobody, purges_not_own, purges_own, purges_own_within}
+use Rattle.ifmap_core.proofs.InSession.{refuses_another, no_purges, refuses_nobody, purges_not_own, purges_own, purges_own_within}
 use Rattle.ifmap_core.proofs.answering.purge.Given as given
 use Rattle.ifmap_core.proofs.answering.purge.Goals as goal
 use Rattle.ifmap_core.proofs.answering.purge.Goals.{After-take_away}
@@ -41,12 +41,12 @@ returns-then-not-equals-clause-leads g c =
 
 pub returns-in-Another-clause-leads : goal.returns-in-Another-clause-leads
 returns-in-Another-clause-leads g c =
-    another c.requires c.args.wish.now.id.now (λ state. purge state c.args.wish.now.asked.now) c.in-Another.ensures
+    refuses_another c.requires c.args.wish.now.id.now (λ state. purge state c.args.wish.now.asked.now) c.in-Another.ensures
     c.refuse-in-Another.result c.refuse-in-Another.ensures
 
 pub returns-in-Nobody-clause-leads : goal.returns-in-Nobody-clause-leads
 returns-in-Nobody-clause-leads g c =
-    nobody c.requires c.args.wish.now.id.now (λ state. purge state c.args.wish.now.asked.now) c.in-Nobody.ensures
+    refuses_nobody c.requires c.args.wish.now.id.now (λ state. purge state c.args.wish.now.asked.now) c.in-Nobody.ensures
     c.refuse-in-Nobody.result c.refuse-in-Nobody.ensures
 
 pub returns-in_ok-take_away-in-Own-clause-steps : goal.returns-in_ok-take_away-in-Own-clause-steps

@@ -1,6 +1,6 @@
 use Rattle.std.proofs.Common.{◌≡◌, ◌<◌, inr, refl}
 use Rattle.ifmap_subscribes.specs.ifmap_changes.Between.{sight_now}
-use Rattle.ifmap_core.proofs.InSession.{another, finds_much_own, finds_own, finds_own_within, no_finds, nobody}
+use Rattle.ifmap_core.proofs.InSession.{refuses_another, finds_much_own, finds_own, finds_own_within, no_finds, refuses_nobody}
 use Rattle.ifmap_core.proofs.answering.run_search.Goals as goal
 use Rattle.ifmap_subscribes.specs.ifmap_fresh.Fresh.{fresh_size}
 use Rattle.ifmap_subscribes.specs.ifmap_graph.Seen.{rows_now}
@@ -22,12 +22,12 @@ returns-in-Err-TooBig-clause-leads g c =
 
 pub returns-in-Another-clause-leads : goal.returns-in-Another-clause-leads
 returns-in-Another-clause-leads g c =
-    another c.requires.can c.args.wish.now.id.now (λ state. search state c.args.wish.now.asked.now) c.in-Another.ensures
+    refuses_another c.requires.can c.args.wish.now.id.now (λ state. search state c.args.wish.now.asked.now) c.in-Another.ensures
     c.refuse.result c.refuse.ensures
 
 pub returns-in-Nobody-clause-leads : goal.returns-in-Nobody-clause-leads
 returns-in-Nobody-clause-leads g c =
-    nobody c.requires.can c.args.wish.now.id.now (λ state. search state c.args.wish.now.asked.now) c.in-Nobody.ensures
+    refuses_nobody c.requires.can c.args.wish.now.id.now (λ state. search state c.args.wish.now.asked.now) c.in-Nobody.ensures
     c.refuse-in-Nobody.result c.refuse-in-Nobody.ensures
 
 pub returns-in-Ok-clause-steps : goal.returns-in-Ok-clause-steps

@@ -1,15 +1,15 @@
-use Rattle.ifmap_core.proofs.InSession.{another, no_subscribes, nobody, subscribes_own, subscribes_own_within}
+use Rattle.ifmap_core.proofs.InSession.{refuses_another, no_subscribes, refuses_nobody, subscribes_own, subscribes_own_within}
 use Rattle.ifmap_core.proofs.answering.subscribe.Goals as goal
 use Rattle.ifmap_subscribes.specs.ifmap_machine.Step.{subscribe}
 
 pub returns-in-Another-clause-leads : goal.returns-in-Another-clause-leads
 returns-in-Another-clause-leads g c =
-    another c.requires.can c.args.wish.now.id.now (λ state. subscribe state c.args.wish.now.asked.now) c.in-Another.ensures
+    refuses_another c.requires.can c.args.wish.now.id.now (λ state. subscribe state c.args.wish.now.asked.now) c.in-Another.ensures
     c.refuse.result c.refuse.ensures
 
 pub returns-in-Nobody-clause-leads : goal.returns-in-Nobody-clause-leads
 returns-in-Nobody-clause-leads g c =
-    nobody c.requires.can c.args.wish.now.id.now (λ state. subscribe state c.args.wish.now.asked.now) c.in-Nobody.ensures
+    refuses_nobody c.requires.can c.args.wish.now.id.now (λ state. subscribe state c.args.wish.now.asked.now) c.in-Nobody.ensures
     c.refuse-in-Nobody.result c.refuse-in-Nobody.ensures
 
 pub returns-in-Own-clause-leads : goal.returns-in-Own-clause-leads

@@ -1,5 +1,5 @@
 use Rattle.std.proofs.Common.{◌∷◌, [], refl, ◌∙◌, arith, get_or, subst}
-use Rattle.ifmap_core.proofs.Applying.{ended_all, lived, one_can_end, one_ended, other_lives}
+use Rattle.ifmap_core.proofs.Applying.{ended_all, was_live, one_can_end, one_ended, other_lives}
 use Rattle.ifmap_core.proofs.completions.end_expired.Goals as goal
 use Rattle.ifmap_session.specs.Sessions.{IsLive}
 
@@ -26,7 +26,7 @@ loop-serial-preserved c = record {
       let serial = get_or c.args.ended.now c.loop-serial.serial-index 0 in
       let there = subst (IsLive n) c.end.ensures.live l in
       c.end.ensures.others n (other_lives n serial c.loop-serial.sessions.live there)
-      ∙ c.loop-serial.invariant.spare n (lived n (serial ∷ []) c.loop-serial.sessions.live there);
+      ∙ c.loop-serial.invariant.spare n (was_live n (serial ∷ []) c.loop-serial.sessions.live there);
 }
 
 pub returns-clause-live : goal.returns-clause-live

@@ -1,6 +1,6 @@
 use Rattle.std.proofs.Common.{◌≡◌, ◌≤◌, Bool, List, sym, ◌∙◌, ap, subst, map, length, arith}
 use Rattle.ifmap_subscribes.specs.ifmap_changes.Between.{Asking, state_now}
-use Rattle.ifmap_core.proofs.Finishing.{can_apply, can_tell_rest, finished, would_be}
+use Rattle.ifmap_core.proofs.Finishing.{can_apply, can_tell_rest, finish_answers, would_be}
 use Rattle.ifmap_core.proofs.completions.finish.Goals as goal
 use Rattle.ifmap_core.proofs.completions.finish.Goals.{After-remove_gone}
 use Rattle.ifmap_core.specs.Completions.{starts_in}
@@ -70,7 +70,7 @@ pub returns-clause-answer : goal.returns-clause-answer
 returns-clause-answer c =
     let place = (goal.at.returns-clause-answer c).After-remove_gone in
     let old = c.args.parts.now in
-    finished c.args.asking.now old c.apply_completion.new.parts c.args.pending c.args.completion c.apply_completion.result
+    finish_answers c.args.asking.now old c.apply_completion.new.parts c.args.pending c.args.completion c.apply_completion.result
     (c.apply_completion.ensures.rows ∙ c.remove_gone.ensures.rows)
     (c.apply_completion.ensures.answer (state_now c.args.asking.now old c.args.pending)
     (sym (ap (λ (a : Asking). a.moment) c.asking.view_is)) (sym (live place))

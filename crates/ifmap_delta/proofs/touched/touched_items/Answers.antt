@@ -8,7 +8,7 @@ use Rattle.ifmap_delta.specs.Located.{IsLocatedTwice}
 use Rattle.ifmap_delta.specs.Shown.{patched_mark}
 use Rattle.ifmap_delta.specs.Sights.{HaveMarks, view_seen}
 use Rattle.ifmap_delta.specs.Touched.{is_looked_at_either, moved_items, planned_items}
-use Rattle.ifmap_fresh.specs.laws.OrderedLaws.{came, rises, stays}
+use Rattle.ifmap_fresh.specs.laws.OrderedLaws.{came_from, rises, stays}
 use Rattle.ifmap_delta.proofs.InStep.{each_long}
 use Rattle.ifmap_delta.proofs.Settling.{gathered_canon, in_patch, ungathered_stay}
 use Rattle.ifmap_delta.proofs.touched.touched_items.Goals as goal
@@ -53,7 +53,7 @@ returns-clause-touched g c =
     in record {
       rising = rises first sorted made turned ordered kept;
       canon = λ x h. gathered_canon old new s c.requires.draft changes c.requires.change.canon mark mark' numbers x
-          (subst (λ l. Has l x) is (came first sorted made turned ordered kept x h));
+          (subst (λ l. Has l x) is (came_from first sorted made turned ordered kept x h));
       others = λ x i f. ungathered_stay c.bytes_tell_identifiers_apart.ensures c.levels_are_walks.ensures.reached
           c.levels_are_walks.ensures.expanded old new s c.requires.graph c.requires.draft changes c.requires.change b.0 b.1 a.0 a.1
           mark mark' b.2 a.2 keeps keeps' numbers (λ v d. in_patch after.marks.now.patch.now mark v d) x i

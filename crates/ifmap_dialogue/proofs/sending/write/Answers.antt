@@ -4,7 +4,7 @@ use Rattle.ifmap_http.specs.Outcomes.{Sends}
 use Rattle.ifmap_http.specs.Wires.{wire_seen}
 use Rattle.ifmap_dialogue.specs.Answers.{closes}
 use Rattle.ifmap_dialogue.specs.Wires.{GainsBytes, WritesOnce}
-use Rattle.ifmap_dialogue.proofs.Writing.{rest_of, same_source, written}
+use Rattle.ifmap_dialogue.proofs.Writing.{rest_of, same_source, what_is_written}
 use Rattle.ifmap_dialogue.proofs.sending.write.Given as given
 use Rattle.ifmap_dialogue.proofs.sending.write.Goals as goal
 use Rattle.ifmap_dialogue.proofs.sending.write.Goals.{After-write_answer-sent}
@@ -19,7 +19,7 @@ writes g c =
     let before = c.args.wire.now in
     let after = c.write_answer-sent.new.self in
     let (output, once, gained) =
-    written (g.L.Sink.held before.link) (g.L.Sink.held after.link) c.write_answer-sent.result
+    what_is_written (g.L.Sink.held before.link) (g.L.Sink.held after.link) c.write_answer-sent.result
     (answer_bytes c.args.status c.args.body.now (closes c.args.then))
     (subst (λ (b : Bool). Sends (g.L.Sink.held before.link) (g.L.Sink.held after.link) c.write_answer-sent.result
     (answer_bytes c.args.status c.args.body.now b)) c.closes.ensures c.write_answer-sent.ensures.sends) in

@@ -2,7 +2,7 @@ use Rattle.std.proofs.Common.{◌∷◌, [], List, ℕ, Ok, subst, sym}
 use Rattle.ifmap_ident.specs.declared.kinds.Kind.{Kind}
 use Rattle.ifmap_forms.specs.AnswerLaws.{refused_exit}
 use Rattle.ifmap_forms.specs.Answers.{IsCheckRefusal}
-use Rattle.ifmap_forms.specs.Gathering.{IsRestAfter, after_made, further, ok_list, stops}
+use Rattle.ifmap_forms.specs.Gathering.{IsRestAfter, after_made, goes_further, ok_list, stops}
 use Rattle.ifmap_lemmas.specs.Separated.{comma_parts}
 use Rattle.ifmap_forms.specs.Values.{kinds_check}
 use Rattle.ifmap_forms.proofs.KindLaws.{kind_goes_on, kind_stops, last_kind}
@@ -26,7 +26,7 @@ loop-piece-preserved c =
     let others = c.in-Some.others.now in
     let kind = c.in_ok-read_kind.field-0 in
     subst (λ (made : List Kind). IsRestAfter whole (kinds_check (comma_parts others)) made) (sym {A = List Kind} c.in_ok-push.ensures.items)
-    (further whole (kinds_check (comma_parts rest)) (kinds_check (comma_parts others)) c.loop-piece.kinds.items (kind ∷ [])
+    (goes_further whole (kinds_check (comma_parts rest)) (kinds_check (comma_parts others)) c.loop-piece.kinds.items (kind ∷ [])
     c.loop-piece.invariant
     (λ found f. subst (λ (ps : List (List ℕ)). kinds_check ps (after_made (kind ∷ []) found)) (sym c.in-Some.ensures.pieces)
     (kind_goes_on piece (comma_parts others) kind c.in_ok-read_kind.ensures found f)))

@@ -4,8 +4,8 @@ use Rattle.ifmap_ident.specs.Items.{item_order}
 use Rattle.ifmap_region.specs.Bounds.{within_nothing}
 use Rattle.ifmap_fresh.specs.Collected.{AreLookedAt}
 use Rattle.ifmap_fresh.specs.Linking.{IsReachedAt}
-use Rattle.ifmap_fresh.specs.laws.OrderedLaws.{came, rises, stays}
-use Rattle.ifmap_fresh.proofs.Unnumbered.{nothing}
+use Rattle.ifmap_fresh.specs.laws.OrderedLaws.{came_from, rises, stays}
+use Rattle.ifmap_fresh.proofs.Unnumbered.{finds_nothing}
 use Rattle.ifmap_fresh.proofs.finding.items_looked_at.Goals as goal
 
 none_rise : IsStrictlySortedBy item_order []
@@ -20,7 +20,7 @@ returns-in_default-clause-items g c =
       rising = none_rise;
       there = λ x h. absurd h;
       canon = λ x h. absurd h;
-      back = λ x i n e. absurd (nothing c.bytes_tell_identifiers_apart.ensures (g.V.View.rows view) (g.V.View.id_at view)
+      back = λ x i n e. absurd (finds_nothing c.bytes_tell_identifiers_apart.ensures (g.V.View.rows view) (g.V.View.id_at view)
           (g.V.View.links view) c.args.search.now
           c.in_default.ensures.whole c.requires.start (λ v f. c.in_default.not-Some v (c.number.ensures.only v f)) x i n e);
     })
@@ -41,7 +41,7 @@ returns-clause-items g c =
     in let kept = c.dedup.ensures.filtered
     in record {
       rising = rises old sorted new moved ordered kept;
-      there = λ x h. c.in_ok-items.ensures.there x (came old sorted new moved ordered kept x h);
-      canon = λ x h. c.in_ok-items.ensures.canon x (came old sorted new moved ordered kept x h);
+      there = λ x h. c.in_ok-items.ensures.there x (came_from old sorted new moved ordered kept x h);
+      canon = λ x h. c.in_ok-items.ensures.canon x (came_from old sorted new moved ordered kept x h);
       back = λ x i n e. stays old sorted new moved ordered kept x (c.in_ok-items.ensures.back x i e);
     }

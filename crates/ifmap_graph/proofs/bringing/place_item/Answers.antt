@@ -7,7 +7,7 @@ use Rattle.ifmap_graph.specs.Bringing.{BringsShelves, graph_fields}
 use Rattle.ifmap_graph.specs.Inside.{IsInside}
 use Rattle.ifmap_graph.specs.Shelved.{slot_of_item}
 use Rattle.ifmap_graph.specs.Sides.{list_next, list_now}
-use Rattle.ifmap_graph.proofs.Changed.{names_alike, held_alike, roomier}
+use Rattle.ifmap_graph.proofs.Changed.{names_alike, held_alike, holds_with_more_room}
 use Rattle.ifmap_graph.proofs.Grown.{few_holds, grown_room}
 use Rattle.ifmap_graph.proofs.Own.{holds_alike}
 use Rattle.ifmap_graph.proofs.bringing.place_item.Goals as goal
@@ -21,7 +21,7 @@ returns-in_err-make_room-clause-grown c =
 pub place_shelf-requires-clause-inside : goal.place_shelf-requires-clause-inside
 place_shelf-requires-clause-inside c = (
   c.make_room.new.links.items,
-  roomier c.args.names.now c.make_room.new.names c.make_room.ensures.live
+  holds_with_more_room c.args.names.now c.make_room.new.names c.make_room.ensures.live
       (get c.args.shelves.now.slots) c.args.shelves.now.places.entries c.args.links.now.items
       c.make_room.new.links.items c.make_room.ensures.whole c.make_room.ensures.same c.make_room.ensures.longer c.requires.inside,
 )
@@ -45,7 +45,7 @@ place_shelf-requires-clause-few c = λ v.
 pub returns-clause-grown : goal.returns-clause-grown
 returns-clause-grown c =
     let room : IsInside c.make_room.new.names (get c.args.shelves.now.slots) c.args.shelves.now.places.entries c.make_room.new.links.items
-    = roomier c.args.names.now c.make_room.new.names c.make_room.ensures.live
+    = holds_with_more_room c.args.names.now c.make_room.new.names c.make_room.ensures.live
     (get c.args.shelves.now.slots) c.args.shelves.now.places.entries c.args.links.now.items
     c.make_room.new.links.items c.make_room.ensures.whole c.make_room.ensures.same c.make_room.ensures.longer c.requires.inside
     in record {

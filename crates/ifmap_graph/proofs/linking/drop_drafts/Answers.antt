@@ -1,6 +1,6 @@
 use Rattle.std.proofs.Common.{◌<◌, ℕ, length, subst, sym, ap, ◌∙◌, arith}
 use Rattle.ifmap_graph.specs.Turning.{sides_at}
-use Rattle.ifmap_graph.proofs.Readying.{drops_on, drops_within, dropping, dropped}
+use Rattle.ifmap_graph.proofs.Readying.{drops_on, drops_within, dropping, drops_drafts}
 use Rattle.ifmap_graph.proofs.linking.drop_drafts.Goals as goal
 
 pub loop-way-init : goal.loop-way-init
@@ -23,5 +23,5 @@ loop-way-preserved c =
 
 pub returns-clause-bare : goal.returns-clause-bare
 returns-clause-bare c =
-    dropped c.args.links.now.items c.args.ways.now c.loop-way.links.items c.loop-way.way-index c.loop-way.invariant
+    drops_drafts c.args.links.now.items c.args.ways.now c.loop-way.links.items c.loop-way.way-index c.loop-way.invariant
     (omega (arith, c.loop-way-test.false))

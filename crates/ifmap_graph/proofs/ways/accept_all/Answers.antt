@@ -1,5 +1,5 @@
 use Rattle.std.proofs.Common.{[], arith}
-use Rattle.ifmap_graph.proofs.Going.{begins, drafted_at, goes_on, within}
+use Rattle.ifmap_graph.proofs.Going.{begins, drafted_at, goes_on, is_within_lists}
 use Rattle.ifmap_graph.proofs.ways.accept_all.Goals as goal
 
 pub loop-i-init : goal.loop-i-init
@@ -10,7 +10,7 @@ accept_at-requires-clause-place g c = omega (arith, c.loop-i-test.true, c.loop-i
 
 pub accept_at-requires-clause-within : goal.accept_at-requires-clause-within
 accept_at-requires-clause-within g c = λ w.
-    within c.args.ways.now.items c.args.lists.now.items c.loop-i.ways.items c.loop-i.lists.items c.loop-i.i
+    is_within_lists c.args.ways.now.items c.args.lists.now.items c.loop-i.ways.items c.loop-i.lists.items c.loop-i.i
     (omega (arith, c.loop-i-test.true, c.loop-i.invariant.long)) c.loop-i.invariant w
 
 pub accept_at-requires-clause-drafted : goal.accept_at-requires-clause-drafted

@@ -1,4 +1,4 @@
-use Rattle.ifmap_lexer.proofs.QuoteLaws.{no_sign, no_quote, quoted_found, unclosed}
+use Rattle.ifmap_lexer.proofs.QuoteLaws.{no_sign, no_quote, quoted_found, no_quote_takes}
 use Rattle.ifmap_lexer.proofs.quoting.quoted_value.Goals as goal
 use Rattle.ifmap_lemmas.specs.Absent.{if_none_weaker}
 use Rattle.std.proofs.lemmas.Option.{IfSome_then}
@@ -24,7 +24,7 @@ returns-clause-found c =
 pub returns-clause-none : goal.returns-clause-none
 returns-clause-none c =
     if_none_weaker c.split_round_byte.result _ _
-    (λ f. unclosed c.args.bytes.now c.split_white.result.0.now c.split_white.result.1.now c.split_white.ensures
+    (λ f. no_quote_takes c.args.bytes.now c.split_white.result.0.now c.split_white.result.1.now c.split_white.ensures
     c.in-Some.after.now c.split_white-2.result.0.now c.split_white-2.result.1.now c.in-Some.ensures.found c.split_white-2.ensures
     c.in-Some-quote_at.quote c.in-Some-quote_at.inside.now c.in-Some-quote_at.ensures.found.0 c.in-Some-quote_at.ensures.found.1 f)
     c.split_round_byte.ensures.none

@@ -1,7 +1,7 @@
 use Rattle.std.proofs.Common.{[], ◌∷◌, ◌++◌, map, ap, ◌∙◌, string_bytes, lit<}
 use Rattle.ifmap_lemmas.specs.Joined.{joined_more, whole_if_ok}
 use Rattle.ifmap_elem.specs.Values.{as_space}
-use Rattle.ifmap_lexer.proofs.RunLaws.{tab_step, after_tab, untabbed}
+use Rattle.ifmap_lexer.proofs.RunLaws.{tab_step, after_tab, keeps_without_breaks}
 use Rattle.ifmap_lexer.proofs.SplitLaws.{after_is_utf8}
 use Rattle.ifmap_lexer.proofs.values.push_untabbed.Goals as goal
 use Rattle.ifmap_elem.specs.Chars.{space_character}
@@ -27,4 +27,4 @@ returns c =
     let inv = c.loop-front.invariant in
     whole_if_ok c.push_str-2.result _ (string_bytes c.loop-front.text) (map as_space c.loop-front.rest.now)
     (string_bytes c.push_str-2.new.self) c.loop-front.rest.now inv.2 c.push_str-2.ensures.bytes
-    (untabbed c.loop-front.rest.now c.in_default.ensures.none inv.1)
+    (keeps_without_breaks c.loop-front.rest.now c.in_default.ensures.none inv.1)

@@ -2,14 +2,14 @@ use Rattle.std.proofs.Common.{◌∙◌, ap, sym, arith, ◌^◌, ◌-◌, ◌<�
 use Rattle.ifmap_search.specs.Sizes.{queue_size}
 use Rattle.ifmap_changes.specs.ifmap_session.Sessions.{Session}
 use Rattle.ifmap_changes.specs.ifmap_tellings.declared.tellings.Telling.TheVariants.{After, Alone}
-use Rattle.ifmap_subscribes.proofs.ToldSizes.{after_size, alone_size, exact, none_told, queue_few}
+use Rattle.ifmap_subscribes.proofs.ToldSizes.{after_size, alone_size, min_is_exact, none_told, queue_few}
 use Rattle.ifmap_subscribes.proofs.names.whole_size.Goals as goal
 
 pub returns-in-None : goal.returns-in-None
 returns-in-None c = λ s e.
     let size = c.queue_size.ensures s e in
     let few : s.limit < 2 ^ 32 = omega (arith, size.1, c.queue_size.type_inv.1) in
-    size.0 ∙ exact (queue_size s.queue) (2 ^ 64 - 1) (queue_few c.args.sessions.now.live c.args.serial s c.requires.within e few)
+    size.0 ∙ min_is_exact (queue_size s.queue) (2 ^ 64 - 1) (queue_few c.args.sessions.now.live c.args.serial s c.requires.within e few)
     ∙ ap (λ (t : Session). queue_size t.queue)
     (sym (none_told c.args.tellings.now c.args.serial c.args.sessions.now.live s e (sym c.in-None.ensures.value)))
 

@@ -1,6 +1,6 @@
 use Rattle.ifmap_writing.specs.RequestElements.{request_bytes}
 use Rattle.ifmap_writing.proofs.BoundLaws.{meant_bounded}
-use Rattle.ifmap_writing.proofs.MeaningLaws.{answered, written_means}
+use Rattle.ifmap_writing.proofs.MeaningLaws.{answers_meaning, written_means}
 use Rattle.ifmap_writing.proofs.laws.requests_are_read_back.Goals as goal
 
 pub returns-clause-fit : goal.returns-clause-fit
@@ -19,4 +19,4 @@ returns-clause-written c = λ bytes request means.
 
 pub returns-clause-answered : goal.returns-clause-answered
 returns-clause-answered c = λ bytes request means result answer.
-    answered c.bodies_have_one_meaning.ensures (request_bytes request) request (returns-clause-written c bytes request means) result answer
+    answers_meaning c.bodies_have_one_meaning.ensures (request_bytes request) request (returns-clause-written c bytes request means) result answer

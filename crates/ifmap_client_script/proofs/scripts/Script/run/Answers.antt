@@ -2,7 +2,7 @@
 use Rattle.std.proofs.Common.{◌∙◌, ap, refl}
 use Rattle.ifmap_client_script.specs.Ends.{source_and_ports}
 use Rattle.ifmap_client_script.specs.Turns.{Scripting}
-use Rattle.ifmap_client_script.proofs.Endings.{begin, done, ends_with, later_ends, nearer, next}
+use Rattle.ifmap_client_script.proofs.Endings.{begin, promises_done, ends_with, later_ends, comes_nearer, reaches_next}
 use Rattle.ifmap_client_script.proofs.Loans.{same_then}
 use Rattle.ifmap_client_script.proofs.scripts.Script.run.Goals as goal
 
@@ -26,7 +26,7 @@ lines-preserved g c =
     let now = source_and_ports (g.S.Source.left c.lines.source) (g.S.Source.faults c.lines.source) (g.O.Outlets.seen c.lines.outlets) in
     let after = source_and_ports (g.S.Source.left c.turn.new.source) (g.S.Source.faults c.turn.new.source)
     (g.O.Outlets.seen c.turn.new.outlets) in (
-      next c.args.caller.now before now after c.lines.self c.lines.invariant.0 c.turn.new.self c.in-Ok-Carried.ensures.later
+      reaches_next c.args.caller.now before now after c.lines.self c.lines.invariant.0 c.turn.new.self c.in-Ok-Carried.ensures.later
           (rw c.in-Ok-Carried.field-0-is at c.in-Ok-Carried.ensures.turns),
       same_then _ _ _ c.lines.invariant.1 c.in-Ok-Carried.ensures.same,
     )
@@ -36,7 +36,7 @@ lines-smaller g c =
     let now = source_and_ports (g.S.Source.left c.lines.source) (g.S.Source.faults c.lines.source) (g.O.Outlets.seen c.lines.outlets) in
     let after = source_and_ports (g.S.Source.left c.turn.new.source) (g.S.Source.faults c.turn.new.source)
     (g.O.Outlets.seen c.turn.new.outlets) in
-    nearer c.args.caller.now now after c.lines.self c.turn.new.self (rw c.in-Ok-Carried.field-0-is at c.in-Ok-Carried.ensures.turns)
+    comes_nearer c.args.caller.now now after c.lines.self c.turn.new.self (rw c.in-Ok-Carried.field-0-is at c.in-Ok-Carried.ensures.turns)
 
 pub returns-in-Ok-Ended-clause-carried : goal.returns-in-Ok-Ended-clause-carried
 returns-in-Ok-Ended-clause-carried g c =
@@ -46,7 +46,7 @@ returns-in-Ok-Ended-clause-carried g c =
     let after = source_and_ports (g.S.Source.left c.turn.new.source) (g.S.Source.faults c.turn.new.source)
     (g.O.Outlets.seen c.turn.new.outlets) in
     record {
-      promises = done c.args.caller.now before now after c.lines.self c.lines.invariant.0
+      promises = promises_done c.args.caller.now before now after c.lines.self c.lines.invariant.0
           (rw c.in-Ok-Ended.field-0-is at c.in-Ok-Ended.ensures.turns);
       later = later_ends before now after c.lines.invariant.0.later c.in-Ok-Ended.ensures.later;
     }

@@ -1,7 +1,7 @@
 use Rattle.std.proofs.Common.{rules, ◌≡◌, ◌↔◌, ◌⊎◌, ◌∙◌, ap, subst, max, arith}
 use Rattle.std.proofs.lemmas.Grind.{common_steps}
 use Rattle.ifmap_core.specs.Causes.{AsksForNoneLeft, FindsTooMuch, HasNoRoomForName, IsLoss, IsRefusal, NamesAnothersSession, NamesNoSession, PollsNoSession, PollsNothing, PurgesAnother, state_for}
-use Rattle.ifmap_core.proofs.Answered.{heard, held_on_poll, of_answer, told_end}
+use Rattle.ifmap_core.proofs.Answered.{heard_where_lost, held_on_poll, of_answer, told_end}
 use Rattle.ifmap_core.proofs.Turned.{back_state}
 use Rattle.ifmap_core.proofs.Refusals.{access_denied, invalid_session, refusal_leaves, system_error, too_big}
 use Rattle.ifmap_core.proofs.Spending.{within_advanced}
@@ -59,7 +59,7 @@ returns-clause-held g c =
 pub returns-clause-heard : goal.returns-clause-heard
 returns-clause-heard g c =
     of_answer (λ a. (a ≡ the_answer.Heard) ↔ IsLoss c.args.event.now.ask) _ _ (returns-clause-answer g c)
-    (heard (state_for c.args.self.now c.args.event.now) c.args.event.now c.args.event.now.ask)
+    (heard_where_lost (state_for c.args.self.now c.args.event.now) c.args.event.now c.args.event.now.ask)
 
 pub returns-clause-told_end : goal.returns-clause-told_end
 returns-clause-told_end g c = λ polls.

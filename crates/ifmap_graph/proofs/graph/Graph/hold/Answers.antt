@@ -8,7 +8,7 @@ use Rattle.ifmap_graph.specs.Inside.{IsInside, shown_shelves}
 use Rattle.ifmap_graph.specs.Named.{AreIdentifiers, uses_in}
 use Rattle.ifmap_graph.specs.Bringing.{graph_fields}
 use Rattle.ifmap_graph.proofs.Grown.{few_holds}
-use Rattle.ifmap_graph.proofs.Changed.{held_alike, inside_held, keys_alike, names_alike, roomier}
+use Rattle.ifmap_graph.proofs.Changed.{held_alike, inside_held, keys_alike, names_alike, holds_with_more_room}
 use Rattle.ifmap_graph.proofs.KeyHolds.{still_identifiers}
 use Rattle.ifmap_graph.proofs.Kept.{KeepsShelves, shelves_kept}
 use Rattle.ifmap_graph.proofs.Settled.{few_from, inside_of}
@@ -20,7 +20,7 @@ use Rattle.ifmap_graph.proofs.graph.Graph.hold.Goals.{After-reserve, After-lengt
 roomy : (c : After-lengthen)
     → IsInside c.reserve.new.self (get c.self.inside.shelves.slots) c.self.inside.shelves.places.entries c.lengthen.new.links.items
 roomy c =
-    roomier c.self.inside.names c.reserve.new.self c.reserve.ensures.live (get c.self.inside.shelves.slots)
+    holds_with_more_room c.self.inside.names c.reserve.new.self c.reserve.ensures.live (get c.self.inside.shelves.slots)
     c.self.inside.shelves.places.entries c.self.inside.links.items c.lengthen.new.links.items c.reserve.ensures.whole
     c.lengthen.ensures.same c.lengthen.ensures.longer c.self.invariant
 

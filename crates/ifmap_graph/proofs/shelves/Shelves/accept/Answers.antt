@@ -6,7 +6,7 @@ use Rattle.slab.specs.Slab.{get}
 use Rattle.ifmap_ident.specs.SameLaws.{items_total}
 use Rattle.ifmap_graph.specs.Sides.{list_next, list_now}
 use Rattle.ifmap_graph.proofs.Staying.{ends_stay, waits_stay}
-use Rattle.ifmap_graph.proofs.Writes.{Write, comes, drafts_kept, drafts_left, shelved, side_stays, stood, write_of}
+use Rattle.ifmap_graph.proofs.Writes.{Write, comes, drafts_kept, drafts_left, is_shelved, side_stays, stood_on, write_of}
 use Rattle.ifmap_graph.proofs.shelves.Shelves.accept.Goals as goal
 
 pub index-at-requires : goal.index-at-requires
@@ -23,10 +23,10 @@ returns c =
     c.index-at.result.now c.index-at.ensures (λ s. record s { stored = record { now = list_next s.stored; draft = None } })
     c.accept_at.ensures.slots
     in record {
-      shelved = shelved w;
+      shelved = is_shelved w;
       next = side_stays w list_next refl;
       now = comes w list_now list_next refl;
-      old = c.accept_at.ensures.old w.was w.had ∙ stood w list_now c.args.item.now (ap is_eq (tied_itself items_total c.args.item.now));
+      old = c.accept_at.ensures.old w.was w.had ∙ stood_on w list_now c.args.item.now (ap is_eq (tied_itself items_total c.args.item.now));
       drafts = drafts_left w refl;
       kept = drafts_kept w;
       ends = ends_stay w refl;

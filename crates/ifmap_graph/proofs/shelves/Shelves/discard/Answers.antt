@@ -2,7 +2,7 @@ use Rattle.std.proofs.Common.{None, refl}
 use Rattle.slab.specs.Slab.{get}
 use Rattle.ifmap_graph.specs.Sides.{list_next, list_now}
 use Rattle.ifmap_graph.proofs.Staying.{ends_stay, waits_stay}
-use Rattle.ifmap_graph.proofs.Writes.{Write, comes, drafts_left, shelved, side_stays, slot_live, write_of}
+use Rattle.ifmap_graph.proofs.Writes.{Write, comes, drafts_left, is_shelved, side_stays, slot_live, write_of}
 use Rattle.ifmap_graph.proofs.shelves.Shelves.discard.Goals as goal
 
 pub discard_at-requires : goal.discard_at-requires
@@ -15,7 +15,7 @@ returns c =
     let w : Write = write_of c.args.self.now.slots c.discard_at.new.slots c.args.self.now.places.entries c.requires.shelved c.args.item.now
     c.index-at.result.now c.index-at.ensures (λ s. record s { stored = record s.stored { draft = None } }) c.discard_at.ensures
     in record {
-      shelved = shelved w;
+      shelved = is_shelved w;
       now = side_stays w list_now refl;
       next = comes w list_next list_now refl;
       drafts = drafts_left w refl;

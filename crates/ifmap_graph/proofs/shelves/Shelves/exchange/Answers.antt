@@ -7,7 +7,7 @@ use Rattle.ifmap_ident.specs.SameLaws.{items_total}
 use Rattle.ifmap_graph.specs.declared.shelves.Shelf.{Shelf}
 use Rattle.ifmap_graph.specs.Sides.{list_next, list_now}
 use Rattle.ifmap_graph.proofs.Staying.{bare_stays, ends_stay, waits_stay}
-use Rattle.ifmap_graph.proofs.Writes.{Write, shelved, shows, stood, write_of}
+use Rattle.ifmap_graph.proofs.Writes.{Write, is_shelved, shows, stood_on, write_of}
 use Rattle.ifmap_graph.proofs.shelves.Shelves.exchange.Goals as goal
 
 pub index-at-requires : goal.index-at-requires
@@ -26,11 +26,11 @@ returns c =
     in let same : w.at ≡ c.requires.drafted.0 = same_Some _ _ (sym w.here ∙ c.requires.drafted.2)
     in let shelf : w.was ≡ c.requires.drafted.1 = same_Some _ _ (sym w.had ∙ ap (get w.slots) same ∙ c.requires.drafted.3)
     in record {
-      shelved = shelved w;
+      shelved = is_shelved w;
       now = shows w list_now c.args.list.now refl;
       next = shows w list_next c.args.list.now
           (ap (λ o. unwrap_or o c.args.list.now) (ap (λ (s : Shelf). s.stored.draft) shelf ∙ c.requires.drafted.4));
-      old = c.exchange_at.ensures.old w.was w.had ∙ stood w list_now c.args.item.now (ap is_eq (tied_itself items_total c.args.item.now));
+      old = c.exchange_at.ensures.old w.was w.had ∙ stood_on w list_now c.args.item.now (ap is_eq (tied_itself items_total c.args.item.now));
       bare = bare_stays w refl;
       ends = ends_stay w refl;
       waits = waits_stay w refl;

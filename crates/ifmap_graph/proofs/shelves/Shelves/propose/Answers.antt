@@ -3,7 +3,7 @@ use Rattle.slab.specs.Slab.{get}
 use Rattle.ifmap_graph.specs.Sides.{list_next, list_now}
 use Rattle.ifmap_graph.proofs.Proposing.{draft_there, drafts_come, drafts_there}
 use Rattle.ifmap_graph.proofs.Staying.{ends_stay, waits_stay}
-use Rattle.ifmap_graph.proofs.Writes.{Write, shelved, shows, side_stays, slot_live, write_of}
+use Rattle.ifmap_graph.proofs.Writes.{Write, is_shelved, shows, side_stays, slot_live, write_of}
 use Rattle.ifmap_graph.proofs.shelves.Shelves.propose.Goals as goal
 
 pub propose_at-requires : goal.propose_at-requires
@@ -17,7 +17,7 @@ returns c =
     c.index-at.result.now c.index-at.ensures (λ s. record s { stored = record s.stored { draft = Some c.args.list.value } })
     c.propose_at.ensures
     in record {
-      shelved = shelved w;
+      shelved = is_shelved w;
       now = side_stays w list_now refl;
       next = shows w list_next c.args.list.value refl;
       drafts = drafts_come w;

@@ -5,7 +5,7 @@ use Rattle.slab.specs.Slab.{get}
 use Rattle.ifmap_graph.specs.Sides.{list_next, list_now}
 use Rattle.ifmap_graph.specs.Waits.{waits_at, waits_of, waits_there}
 use Rattle.ifmap_graph.proofs.Staying.{bare_stays, ends_stay}
-use Rattle.ifmap_graph.proofs.Writes.{Write, shelved, side_stays, slot_live, waits_had, waits_has, waits_others, write_of}
+use Rattle.ifmap_graph.proofs.Writes.{Write, is_shelved, side_stays, slot_live, waits_had, waits_has, waits_others, write_of}
 use Rattle.ifmap_graph.proofs.Waited.{waits_one_less}
 use Rattle.ifmap_graph.proofs.shelves.Shelves.unwait.Goals as goal
 use Rattle.ifmap_lemmas.specs.Options.{some_is}
@@ -26,7 +26,7 @@ returns c =
     c.index-at.result.now c.index-at.ensures (λ s. record s { waits = s.waits - 1 }) c.unwait_at.ensures.slots
     in let tie = ap is_eq (tied_itself items_total c.args.item.now)
     in record {
-      shelved = shelved w;
+      shelved = is_shelved w;
       left = c.unwait_at.ensures.left w.was w.had ∙ sym (waits_has w c.args.item.now tie);
       waits = waits_one_less (waits_at (get w.slots) w.es) (waits_at (get w.new) w.es) w.item w.was.waits
           w.later.waits (waits_had w) (waits_has w)

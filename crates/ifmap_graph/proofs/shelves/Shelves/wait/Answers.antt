@@ -5,7 +5,7 @@ use Rattle.ifmap_graph.specs.Sides.{list_next, list_now}
 use Rattle.ifmap_graph.specs.Waits.{waits_at, waits_of, waits_there}
 use Rattle.ifmap_graph.proofs.Proposing.{drafts_from, drafts_to}
 use Rattle.ifmap_graph.proofs.Staying.{ends_stay}
-use Rattle.ifmap_graph.proofs.Writes.{Write, shelved, side_stays, slot_live, waits_had, waits_has, waits_others, write_of}
+use Rattle.ifmap_graph.proofs.Writes.{Write, is_shelved, side_stays, slot_live, waits_had, waits_has, waits_others, write_of}
 use Rattle.ifmap_graph.proofs.Waited.{waits_one_more}
 use Rattle.ifmap_graph.proofs.shelves.Shelves.wait.Goals as goal
 use Rattle.ifmap_lemmas.specs.Options.{some_is}
@@ -24,7 +24,7 @@ returns c =
     let w : Write = write_of c.args.self.now.slots c.wait_at.new.slots c.args.self.now.places.entries c.requires.shelved c.args.item.now
     c.index-at.result.now c.index-at.ensures (λ s. record s { waits = s.waits + 1 }) c.wait_at.ensures
     in record {
-      shelved = shelved w;
+      shelved = is_shelved w;
       waits = waits_one_more (waits_at (get w.slots) w.es) (waits_at (get w.new) w.es) w.item w.was.waits
           w.later.waits (waits_had w) (waits_has w)
           (waits_others w) refl;

@@ -4,7 +4,7 @@ use Rattle.ifmap_lemmas.specs.Options.{is_some_of}
 use Rattle.ifmap_pool.specs.Holdings.{Holdings, HoldsAgain, HoldsOne, TakesNumber}
 use Rattle.ifmap_pool.specs.Index.{IsKept, IsKeyPlace, slot_at, slot_count}
 use Rattle.ifmap_pool.specs.declared.slots.HeldKey.{HeldKey}
-use Rattle.ifmap_pool.proofs.Changes.{holdings_of, shown, whole_now, room_for_new, write_count, take_number}
+use Rattle.ifmap_pool.proofs.Changes.{holdings_of, shows_pool, whole_now, room_for_new, write_count, take_number}
 use Rattle.ifmap_pool.proofs.Kept.{place_held}
 use Rattle.ifmap_pool.proofs.Named.{holds_from_slot, names_from_slot, absent_at}
 use Rattle.ifmap_pool.proofs.pools.Pool.hold_one.Given as given
@@ -70,7 +70,7 @@ slot_of_live-requires g c =
 
 pub overflow_add-holds : goal.overflow_add-holds
 overflow_add-holds g c =
-    let shows = shown c.self.invariant.0 c.self.view_is in
+    let shows = shows_pool c.self.invariant.0 c.self.view_is in
     let place = goal.at.overflow_add-holds g c in
     let entry = stands g place.After-index-number in
     let number = c.index-number.result.now in
@@ -101,7 +101,7 @@ pub returns-in-Ok-clause-holds : goal.returns-in-Ok-clause-holds
 returns-in-Ok-clause-holds g c =
     let place = goal.at.returns-in-Ok-clause-holds g c in
     let entry = stands g place.After-index-number in
-    let shows = shown c.self.invariant.0 c.self.view_is in
+    let shows = shows_pool c.self.invariant.0 c.self.view_is in
     let mine = names_from_slot shows g.K.Ord.cmp c.index-number.result.now entry.0 c.args.key entry.1 entry.2 in
     holds_wider g c.args.self.now _ c.args.key _ _ c.from.ensures (inl (mine, (count_rises g place.After-set_holds).1))
 
@@ -132,7 +132,7 @@ invariant_of-self-in-Err g c =
 pub returns-in-Err-clause-holds : goal.returns-in-Err-clause-holds
 returns-in-Err-clause-holds g c =
     let place = goal.at.returns-in-Err-clause-holds g c in
-    let none = absent_at (shown c.self.invariant.0 c.self.view_is) g.met.K.Ord.total c.self.invariant.0.indexed c.args.key c.in-Err.place
+    let none = absent_at (shows_pool c.self.invariant.0 c.self.view_is) g.met.K.Ord.total c.self.invariant.0.indexed c.args.key c.in-Err.place
     (missing g place.In-Err) in
     holds_wider g c.args.self.now _ c.args.key _ _ c.from-in-Err.ensures
     (inr (none, (key_moves_in g place.After-list_number (room g place.In-Err)).1))

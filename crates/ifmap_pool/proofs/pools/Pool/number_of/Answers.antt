@@ -1,7 +1,7 @@
 use Rattle.std.proofs.Common.{◌≡◌, ℕ, get_or, Some, sym, ap, subst, ◌∙◌}
 use Rattle.std.proofs.lemmas.List.{get_or_default}
 use Rattle.ifmap_pool.specs.Holdings.{Names}
-use Rattle.ifmap_pool.proofs.Changes.{shown, whole_now}
+use Rattle.ifmap_pool.proofs.Changes.{shows_pool, whole_now}
 use Rattle.ifmap_pool.proofs.Named.{numbers_apart, named_at, absent_at}
 use Rattle.ifmap_pool.proofs.pools.Pool.number_of.Goals as goal
 
@@ -10,7 +10,7 @@ place_of-requires g c = rw (c.deref.ensures.value, c.deref-2.ensures.value) c.se
 
 pub returns-in-Ok-clause-found : goal.returns-in-Ok-clause-found
 returns-in-Ok-clause-found g c =
-    let shows = shown c.self.invariant.0 c.self.view_is in
+    let shows = shows_pool c.self.invariant.0 c.self.view_is in
     let found = rw (c.deref.ensures.value, c.deref-2.ensures.value) at c.in-Ok.ensures in
     let at : get_or c.self.inside.order.items c.in-Ok.place 0 ≡ c.index.result.now =
     get_or_default c.self.inside.order.items c.in-Ok.place 0 c.index.result.now found.0 ∙ sym c.index.ensures in
@@ -21,7 +21,7 @@ returns-in-Ok-clause-found g c =
 
 pub returns-in-Ok-clause-only : goal.returns-in-Ok-clause-only
 returns-in-Ok-clause-only g c number names =
-    let shows = shown c.self.invariant.0 c.self.view_is in
+    let shows = shows_pool c.self.invariant.0 c.self.view_is in
     ap Some (numbers_apart shows g.met.K.Ord.total c.self.invariant.0.indexed
     _ _ c.args.key.now (returns-in-Ok-clause-found g c) names)
 
@@ -30,7 +30,7 @@ returns-in-Ok-clause-whole g c = whole_now c.self.invariant.0 c.self.view_is g.m
 
 pub returns-in-Err-clause-absent : goal.returns-in-Err-clause-absent
 returns-in-Err-clause-absent g c =
-    let shows = shown c.self.invariant.0 c.self.view_is in
+    let shows = shows_pool c.self.invariant.0 c.self.view_is in
     let missing = rw (c.deref.ensures.value, c.deref-2.ensures.value) at c.in-Err.ensures in
     absent_at shows g.met.K.Ord.total c.self.invariant.0.indexed
     c.args.key.now _ missing

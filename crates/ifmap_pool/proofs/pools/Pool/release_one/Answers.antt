@@ -3,7 +3,7 @@ use Rattle.std.specs.Prelude.{IsSome}
 use Rattle.ifmap_lemmas.specs.Options.{is_some_of}
 use Rattle.ifmap_pool.specs.Holdings.{Holdings, Frees, LetsGo, LetsOneGo}
 use Rattle.ifmap_pool.specs.Index.{IsKept, slot_at}
-use Rattle.ifmap_pool.proofs.Changes.{holdings_of, shown, limit_is, whole_now, write_count, free_number}
+use Rattle.ifmap_pool.proofs.Changes.{holdings_of, shows_pool, limit_is, whole_now, write_count, free_number}
 use Rattle.ifmap_pool.proofs.Named.{slot_from_live, entry_from_slot}
 use Rattle.ifmap_pool.proofs.pools.Pool.release_one.Given as given
 use Rattle.ifmap_pool.proofs.pools.Pool.release_one.Goals as goal
@@ -22,7 +22,7 @@ goes : (g : given.Over) (c : After-slot_of_live g) (new : Holdings g.row.K.Denot
     ⊎ ((c.slot_of_live.result.now.holds ≡ 1) × Frees c.args.self.now new c.args.number) → LetsOneGo c.args.self.now new c.args.number
 goes g c new either =
     let held = c.slot_of_live.result.now in
-    ((held.key, held.holds), entry_from_slot (shown c.self.invariant.0 c.self.view_is) c.args.number held (there g c), either)
+    ((held.key, held.holds), entry_from_slot (shows_pool c.self.invariant.0 c.self.view_is) c.args.number held (there g c), either)
 
 -- the count of the number is one less, and nothing else changes
 count_falls : (g : given.Over) (c : After-set_holds g)
@@ -55,7 +55,7 @@ prove-unreachable-requires g c =
 
 pub slot_of_live-requires : goal.slot_of_live-requires
 slot_of_live-requires g c =
-    let there = slot_from_live (shown c.self.invariant.0 c.self.view_is) c.args.number c.requires in
+    let there = slot_from_live (shows_pool c.self.invariant.0 c.self.view_is) c.args.number c.requires in
     rw c.deref.ensures.value (is_some_of _ there.0 there.1)
 
 pub set_holds-requires : goal.set_holds-requires

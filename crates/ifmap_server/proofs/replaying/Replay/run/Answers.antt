@@ -1,7 +1,7 @@
 -- Turn by turn to the end of the replay.
 use Rattle.ifmap_server.specs.Ends.{source_and_sink}
 use Rattle.ifmap_server.proofs.Endings.{error_ends, fault_ends}
-use Rattle.ifmap_server.proofs.Progress.{begin, next, over}
+use Rattle.ifmap_server.proofs.Progress.{begin, reaches_next, answers_all}
 use Rattle.ifmap_server.proofs.replaying.Replay.run.Goals as goal
 
 pub frames-init : goal.frames-init
@@ -10,12 +10,12 @@ frames-init g c = begin c.bodies_have_one_meaning.ensures _ _ c.requires
 pub frames-preserved : goal.frames-preserved
 frames-preserved g c =
     let turned = rw c.in-Ok-Answered.field-0-is at c.in-Ok-Answered.ensures.turn in
-    next _ _ _ _ c.frames.invariant _ turned c.in-Ok-Answered.ensures.later
+    reaches_next _ _ _ _ c.frames.invariant _ turned c.in-Ok-Answered.ensures.later
 
 pub returns-in-Ok-Ended : goal.returns-in-Ok-Ended
 returns-in-Ok-Ended g c =
     let turned = rw c.in-Ok-Ended.field-0-is at c.in-Ok-Ended.ensures.turn in
-    over _ _ _ _ c.frames.invariant turned
+    answers_all _ _ _ _ c.frames.invariant turned
 
 pub returns-in-FrameFault : goal.returns-in-FrameFault
 returns-in-FrameFault g c =

@@ -6,7 +6,7 @@ use Rattle.ifmap_server.specs.declared.errors.ReplayError.TheVariants.{WriteFaul
 use Rattle.ifmap_server.specs.Output.{AppendsPrefix}
 use Rattle.ifmap_server.specs.Script.{BeginsFrame}
 use Rattle.ifmap_server.specs.Turns.{IsFramed, frame_within}
-use Rattle.ifmap_server.proofs.Endings.{untaken}
+use Rattle.ifmap_server.proofs.Endings.{turn_takes_nothing}
 use Rattle.ifmap_server.proofs.replaying.Replay.turn.Goals as goal
 
 pub returns-in_err-framed-clause-turn : goal.returns-in_err-framed-clause-turn
@@ -14,7 +14,7 @@ returns-in_err-framed-clause-turn g c =
     let p = err_from_is_err_and c.from_residual.result c.from_residual.ensures.1 in
     let replay = c.self.inside in
     rw (p.1, p.2, ← c.self.view_is)
-    (untaken c.in_err-framed.field-0.0 g.S.Source.left g.S.Source.faults c.args.source.now c.next_frame.new.source
+    (turn_takes_nothing c.in_err-framed.field-0.0 g.S.Source.left g.S.Source.faults c.args.source.now c.next_frame.new.source
     (g.K.Sink.held c.args.sink.now) (g.K.Sink.faults c.args.sink.now)
     (record { state = replay.core; pending = replay.input; offset = replay.offset })
     (record { state = replay.core; pending = c.next_frame.new.input; offset = replay.offset })
