@@ -306,7 +306,8 @@ module _ {a : Asking} {old : Parts} {before : Pending} {notes : List Note} {stan
         by (Some u) was = (known.ready.can_tell n u was).live
         by None was =
             let some = brought n (subst IsSome (sym is) refl) was
-            in let one = some_joined (told_to rows next notes) (λ (y : machine.Standing). y.serial == n) those (λ e. some (queued_is_told n ∙ e))
+            in let one = some_joined (told_to rows next notes) (λ (y : machine.Standing). y.serial == n) those
+            (λ e. some (queued_is_told n ∙ e))
             in subst (λ m. IsLive m lives) (eqb-true one.0.serial n one.2)
             (all_has (λ (z : machine.Standing). IsLive z.serial lives) those live_those one.0 one.1)
 

@@ -186,8 +186,10 @@ module _ (state : State) (event : Event) where
       neither _ _ (new_not state client Heard heard_no_reply event.random limit) (λ h. let bad = h.1 in cc)
   heard_where_lost (Request (the_request.RenewSession id)) = neither _ _ (renew_other Heard heard_no_reply id) (λ h. let bad = h.1 in cc)
   heard_where_lost (Request (the_request.EndSession id)) = neither _ _ (end_other Heard heard_no_reply id) (λ h. let bad = h.1 in cc)
-  heard_where_lost (Request (the_request.Publish id ops)) = neither _ _ (publish_other Heard heard_no_reply id ops) (λ h. let bad = h.1 in cc)
-  heard_where_lost (Request (the_request.Search id asked)) = neither _ _ (search_other Heard heard_no_reply id asked) (λ h. let bad = h.1 in cc)
+  heard_where_lost (Request (the_request.Publish id ops)) = neither _ _ (publish_other Heard heard_no_reply id ops)
+      (λ h. let bad = h.1 in cc)
+  heard_where_lost (Request (the_request.Search id asked)) = neither _ _ (search_other Heard heard_no_reply id asked)
+      (λ h. let bad = h.1 in cc)
   heard_where_lost (Request (the_request.Subscribe id ops)) =
       neither _ _ (subscribe_other Heard heard_no_reply id ops) (λ h. let bad = h.1 in cc)
   heard_where_lost (Request (the_request.Poll id)) =

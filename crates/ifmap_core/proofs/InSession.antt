@@ -182,14 +182,16 @@ module _ {a : Asking} {parts : Parts} {pending : Pending} (can : CanAnswer a par
 
   -- ---- in a session that is not the client's
 
-  pub refuses_another : {E : Type 0} (accept : State → Session → State × Answer) → IsOwner (sessions_left a parts.sessions) id a.client Another
+  pub refuses_another : {E : Type 0} (accept : State → Session → State × Answer)
+      → IsOwner (sessions_left a parts.sessions) id a.client Another
       → (r : Result Completion E) → IfOk r (λ o. o ≡ Say (refusal AccessDenied))
       → GivesCompletion r a parts pending (case_in state a.client id (accept state))
   refuses_another accept o r is =
       says a parts pending can.steady can.ready (refusal AccessDenied) _
       (another_denied state id a.client (accept state) (owner_so_far a parts pending id a.client Another o)) r is
 
-  pub refuses_nobody : {E : Type 0} (accept : State → Session → State × Answer) → IsOwner (sessions_left a parts.sessions) id a.client Nobody
+  pub refuses_nobody : {E : Type 0} (accept : State → Session → State × Answer)
+      → IsOwner (sessions_left a parts.sessions) id a.client Nobody
       → (r : Result Completion E) → IfOk r (λ o. o ≡ Say (refusal InvalidSessionID))
       → GivesCompletion r a parts pending (case_in state a.client id (accept state))
   refuses_nobody accept o r is =

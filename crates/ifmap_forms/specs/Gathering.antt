@@ -266,7 +266,8 @@ module _ {X : Type 0} (whole : Check (List X)) where
           → more ≡ made ++ option_list o → IsRestAfter whole (each_element one (index + 1) (parts_in others)) more
       elements_further o more f same =
           subst (λ (m : List X). IsRestAfter whole (each_element one (index + 1) (parts_in others)) m) (sym same)
-          (goes_further whole (each_element one index (parts_in left)) (each_element one (index + 1) (parts_in others)) made (option_list o) g
+          (goes_further whole (each_element one index (parts_in left)) (each_element one (index + 1) (parts_in others)) made
+          (option_list o) g
           (λ found r. subst (λ (ps : List Part). each_element one index ps (after_made (option_list o) found)) (sym parts_are)
           (part_goes_on one index (parts_in others) (out-Child child) o f found r)))
 

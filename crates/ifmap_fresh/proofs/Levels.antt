@@ -82,7 +82,8 @@ module _ (tells : BytesTellIdentifiers) (rows : List Attachment) (items : AllByR
   is_within_walk n a i e =
       let f = any_has (same_identifier a) (ends_within rows s n) e
       in let w = within_walk n f.0 f.1
-      in within_walk n a (subst (λ x. Has (ends_within rows s n) x) (sym (same_is tells a f.0 i (on_canon rows s start w.0 f.0 w.2) f.2)) f.1)
+      in within_walk n a (subst (λ x. Has (ends_within rows s n) x)
+      (sym (same_is tells a f.0 i (on_canon rows s start w.0 f.0 w.2) f.2)) f.1)
 
   pub walk_is_within : (n k : ℕ) (a : Identifier) → k ≤ n → SearchWalk rows s k a → is_within rows s n a ≡ true
   walk_is_within n k a h w = has_any (same_identifier a) (ends_within rows s n) a (walk_within n k a h w) (identifier_itself a)

@@ -36,7 +36,8 @@ above_differs item s t e l =
 pub none_above : (item : Item) (s : Shelf) (ss : List Shelf) → same_item s.item item ≡ true → AllByRecursion (λ t. item_below s t ≡ true) ss
     → stored_on item (rows_on_shelves ss) ≡ []
 none_above item s [] e a = refl
-none_above item s (t ∷ ts) e a = passes_item item t.item t.rows.items (rows_on_shelves ts) (above_differs item s t e a.0) ∙ none_above item s ts e a.1
+none_above item s (t ∷ ts) e a = passes_item item t.item t.rows.items (rows_on_shelves ts) (above_differs item s t e a.0)
+    ∙ none_above item s ts e a.1
 
 -- the shelf of the item has all of it
 pub shelf_stores_all : (item : Item) (s : Shelf) (ss : List Shelf) → all_pairs item_below (s ∷ ss) ≡ true → same_item s.item item ≡ true

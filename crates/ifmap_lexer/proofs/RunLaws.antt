@@ -25,7 +25,8 @@ module _ (rest front after : List ℕ) where
   tab_step c g =
       ap (map as_space) c.bytes_are ∙ map-append as_space front (tab ∷ after)
       ∙ ap (λ x. x ++ (space_character ∷ map as_space after))
-      (keeps_without_breaks front c.passes (all_front (is_but line_feed) front (tab ∷ after) (subst (AllAre (is_but line_feed)) c.bytes_are g)))
+      (keeps_without_breaks front c.passes
+      (all_front (is_but line_feed) front (tab ∷ after) (subst (AllAre (is_but line_feed)) c.bytes_are g)))
 
   pub after_tab : CutsAt tab rest front after → AllAre (is_but line_feed) rest → AllAre (is_but line_feed) after
   after_tab c g = (all_back (is_but line_feed) front (tab ∷ after) (subst (AllAre (is_but line_feed)) c.bytes_are g)).1

@@ -87,7 +87,8 @@ module _ (ts : List Attribute) (i : ℕ) (t : Attribute) (l : i < length ts) (is
       → ((n : Bor Name) → more n ≡ cond (same_name key.now n.now) true (has n)) → Names-so-far ts (i + 1) more
   name_added added tells holds more now = record {
     differ = subst AllDiffer (sym more_is) (differ_last before t.name at.differ (sym there_is ∙ not-true (has key) (sym tells ∙ holds)));
-    has_them = λ n. now n ∙ ap (λ m. cond (same_name m n.now) true (has n)) k ∙ ap (λ b. cond (same_name t.name n.now) true b) (at.has_them n)
+    has_them = λ n. now n ∙ ap (λ m. cond (same_name m n.now) true (has n)) k ∙ ap (λ b. cond (same_name t.name n.now) true b)
+        (at.has_them n)
         ∙ or_last (same_name t.name n.now) (list_any (same_name n.now) before)
         ∙ ap (λ b. list_any (same_name n.now) before || (b || false)) (same_swaps t.name n.now)
         ∙ sym (list_any-append (same_name n.now) before (t.name ∷ [])) ∙ ap (list_any (same_name n.now)) (sym more_is);

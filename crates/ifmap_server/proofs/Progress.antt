@@ -1,7 +1,7 @@
 -- A replay so far: the frames that were answered, and what they make of the frames that are left.
 -- `framed` and `unframed` go from a script of what is left to one of all bytes, and back: back because bodies have one meaning. So
--- what ends in all bytes read speaks of the frames that were answered (`answers_all`, `answers_taken`, `fault_told`), and what ends before speaks
--- of each output of the bytes (`answers_part`, `part`, `fault_part`).
+-- what ends in all bytes read speaks of the frames that were answered (`answers_all`, `answers_taken`, `fault_told`), and what ends
+-- before speaks of each output of the bytes (`answers_part`, `part`, `fault_part`).
 use Rattle.std.proofs.Common.{◌≡◌, ◌≢◌, ℕ, ◌+◌, List, [], ◌∷◌, ◌++◌, length, drop, None, Some, IfSome, refl, sym, ap, subst, ◌∙◌, append_assoc, append-nil, arith}
 use Rattle.std.proofs.lemmas.Option.{IfSome_then}
 use Rattle.std.specs.Prelude.{Option}

@@ -87,7 +87,8 @@ module _ {serial : ℕ} {t : Told} {old mid : Readying} {name : List ℕ} {now :
     counted_more : r.name ≡ name → IsOfSession serial r → IsTold r → IsSmall r → length mid.made.items < most_ops
         → (now.stands ≡ false → old.count + length (option_to_list r.standing) ≤ 1000) → AreCounted serial t new
     counted_more same s told small few room =
-        adds_renaming serial t mid new mid_counted now r s told a (subst (λ x. IsNameNow serial x (told_after serial mid t) now) (sym same) mid_now)
+        adds_renaming serial t mid new mid_counted now r s told a
+        (subst (λ x. IsNameNow serial x (told_after serial mid t) now) (sym same) mid_now)
         small few (λ free. omega (arith, room free, h.noted.count))
 
     pub readied_more : (p : Parts) → r.name ≡ name → IsOfSession serial r → IsTold r → IsSmall r → length mid.made.items < most_ops

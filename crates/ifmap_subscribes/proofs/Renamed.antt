@@ -1,7 +1,7 @@
 -- What one renaming more makes of what is to be told and of the subscriptions, and of what is kept of it.
 -- First: renamings in a row, and one more. Then: the subscriptions after a renaming, by the one that is to stand. Then: the queue after
--- it, by the item that is to be told. Last: what is kept is so still where one renaming more is added (`adds_renaming`), and where only what is
--- so of a name is noted (`room_is_noted`).
+-- it, by the item that is to be told. Last: what is kept is so still where one renaming more is added (`adds_renaming`), and where only
+-- what is so of a name is noted (`room_is_noted`).
 use Rattle.std.proofs.Common.{◌≡◌, ◌≢◌, refl, sym, ◌∙◌, ap, subst, ℕ, ◌+◌, ◌-◌, ◌^◌, ◌<◌, ◌≤◌, true, false, not, cond, List, [], ◌∷◌, ◌++◌, length, Option, None, Some, is_some, inl, inr, arith, append-nil, length-append, option_to_list}
 use Rattle.std.proofs.lemmas.Bool.{cases_Bool, false_from_ne_true}
 use Rattle.std.proofs.lemmas.List.Concat.{flat_map-append}
@@ -197,7 +197,8 @@ module _ (serial : ℕ) (t : Told) (old new : Readying) (c : AreCounted serial t
               omega (arith, none, a.count, room new_one)
         ]
 
-    pub adds_renaming : IsSmall r → length old.made.items < most_ops → (now.stands ≡ false → old.count + length (option_to_list r.standing) ≤ 1000)
+    pub adds_renaming : IsSmall r → length old.made.items < most_ops
+        → (now.stands ≡ false → old.count + length (option_to_list r.standing) ≤ 1000)
         → AreCounted serial t new
     adds_renaming small most room =
         let long : length new.made.items ≡ length old.made.items + 1 = ap length a.made ∙ length-append old.made.items (r ∷ []) in

@@ -1,5 +1,5 @@
--- The steps of a subscribe. First those of a search, on a graph that shows the same (`within_span`, `spanned_as`). Then those of one operation
--- and of the rest are those of all (`one_more`), or they stop there (`one_stops`).
+-- The steps of a subscribe. First those of a search, on a graph that shows the same (`within_span`, `spanned_as`). Then those of one
+-- operation and of the rest are those of all (`one_more`), or they stop there (`one_stops`).
 use Rattle.std.proofs.Common.{◌≡◌, ◌∙◌, ◌<◌, ap, inr, refl, sym, subst, ℕ, suc, ◌+◌, add-one, List, ◌∷◌, drop, drop-cons, length, get_or}
 use Rattle.ifmap_changes.specs.Between.{IsSeen, sight_now}
 use Rattle.ifmap_changes.specs.ifmap_fresh.Linking.{IsReachedAt}

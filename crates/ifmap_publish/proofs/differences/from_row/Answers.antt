@@ -4,7 +4,8 @@ use Rattle.ifmap_publish.proofs.differences.from_row.Goals as goal
 
 pub loop-after-preserved : goal.loop-after-preserved
 loop-after-preserved c =
-    let p = passes_first c.args.row.now c.loop-after.rest.now c.in-Some.after.now c.args.rows.now c.loop-after.invariant.rising c.in-Some.ensures
+    let p = passes_first c.args.row.now c.loop-after.rest.now c.in-Some.after.now c.args.rows.now c.loop-after.invariant.rising
+    c.in-Some.ensures
     c.loop-after.invariant.same in
     record { rising = p.0; same = p.1 }
 

@@ -10,4 +10,5 @@ returns c = λ s e.
     let few : s.limit < 2 ^ 32 = omega (arith, limit, c.queue_size-whole.type_inv.1) in
     let all = queue_few c.args.sessions.now.live c.args.serial s c.requires.within e few in
     let part = part_within (is_named c.args.name.now) s.queue in
-    c.size_of_name.ensures s e ∙ min_is_exact (queue_size (filter (is_named c.args.name.now) s.queue)) (2 ^ 64 - 1) (omega (arith, all, part))
+    c.size_of_name.ensures s e ∙ min_is_exact (queue_size (filter (is_named c.args.name.now) s.queue)) (2 ^ 64 - 1)
+    (omega (arith, all, part))

@@ -19,4 +19,5 @@ returns-clause-written c = λ bytes request means.
 
 pub returns-clause-answered : goal.returns-clause-answered
 returns-clause-answered c = λ bytes request means result answer.
-    answers_meaning c.bodies_have_one_meaning.ensures (request_bytes request) request (returns-clause-written c bytes request means) result answer
+    answers_meaning c.bodies_have_one_meaning.ensures (request_bytes request) request
+    (returns-clause-written c bytes request means) result answer

@@ -30,7 +30,8 @@ returns c =
       now = shows w list_now c.args.list.now refl;
       next = shows w list_next c.args.list.now
           (ap (λ o. unwrap_or o c.args.list.now) (ap (λ (s : Shelf). s.stored.draft) shelf ∙ c.requires.drafted.4));
-      old = c.exchange_at.ensures.old w.was w.had ∙ stood_on w list_now c.args.item.now (ap is_eq (tied_itself items_total c.args.item.now));
+      old = c.exchange_at.ensures.old w.was w.had ∙ stood_on w list_now c.args.item.now
+          (ap is_eq (tied_itself items_total c.args.item.now));
       bare = bare_stays w refl;
       ends = ends_stay w refl;
       waits = waits_stay w refl;

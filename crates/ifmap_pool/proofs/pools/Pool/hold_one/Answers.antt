@@ -132,7 +132,8 @@ invariant_of-self-in-Err g c =
 pub returns-in-Err-clause-holds : goal.returns-in-Err-clause-holds
 returns-in-Err-clause-holds g c =
     let place = goal.at.returns-in-Err-clause-holds g c in
-    let none = absent_at (shows_pool c.self.invariant.0 c.self.view_is) g.met.K.Ord.total c.self.invariant.0.indexed c.args.key c.in-Err.place
+    let none = absent_at (shows_pool c.self.invariant.0 c.self.view_is) g.met.K.Ord.total c.self.invariant.0.indexed c.args.key
+    c.in-Err.place
     (missing g place.In-Err) in
     holds_wider g c.args.self.now _ c.args.key _ _ c.from-in-Err.ensures
     (inr (none, (key_moves_in g place.After-list_number (room g place.In-Err)).1))
