@@ -12,6 +12,7 @@ use Rattle.ifmap_heads.specs.declared.posts.PostTerms.{PostTerms}
 use Rattle.ifmap_input.specs.Inputs.{TakesFromSource}
 use Rattle.ifmap_http.specs.Bodies.{LacksBody, TakesBody}
 use Rattle.ifmap_http.proofs.Bounds.{size_of}
+use Rattle.ifmap_elem.specs.Chars.{space_character}
 
 -- what is claimed of all that a wire had left, where it is told, by what it has taken and what is left then
 pub for_told : (P : List ℕ → Type 0) (left_old left_new : Option (List ℕ)) (old new : List ℕ) → TakesFromSource left_old left_new old new
@@ -83,14 +84,15 @@ post_read bytes size terms left_old left_new all new body has told takes sized_i
 
 pub head_is_some : (left : List ℕ) (h : RequestHead) (rest : List ℕ) → left ≡ print_request h ++ rest → left ≢ []
 head_is_some left h rest cut none =
-    let after = h.target ++ 32 ∷ (print_version h.minor ++ (print_end h.line_end ++ (print_section h.fields h.last ++ rest))) in
+    let after = h.target ++ space_character ∷
+    (print_version h.minor ++ (print_end h.line_end ++ (print_section h.fields h.last ++ rest))) in
     omega (
       arith,
       ap length none,
       ap length (cut ∙ print_request-append h rest),
       length-append (print_blank h.blank)
-          (h.method ++ 32 ∷ after),
-      length-append h.method (32 ∷ after),
+          (h.method ++ space_character ∷ after),
+      length-append h.method (space_character ∷ after),
     )
 
 pub post_lacks : (bytes : List ℕ) (size : ℕ) (terms : PostTerms) (left_old left_new : Option (List ℕ)) (all : List ℕ)

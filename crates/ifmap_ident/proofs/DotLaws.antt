@@ -19,16 +19,16 @@ is_dot c = c == byte "."
 
 -- ---- what is cut
 
-all_last : (xs : List ℕ) → list_all is_dot (xs ++ 46 ∷ []) ≡ list_all is_dot xs
+all_last : (xs : List ℕ) → list_all is_dot (xs ++ byte "." ∷ []) ≡ list_all is_dot xs
 all_last [] = refl
 all_last (c ∷ xs) = ap (λ t. is_dot c && t) (all_last xs)
 
-last_dot : (xs : List ℕ) → without_last_dots (xs ++ 46 ∷ []) ≡ without_last_dots xs
+last_dot : (xs : List ℕ) → without_last_dots (xs ++ byte "." ∷ []) ≡ without_last_dots xs
 last_dot [] = refl
 last_dot (b ∷ xs) = λ i. cond (is_dot b && all_last xs i) [] (b ∷ last_dot xs i)
 
-dots_end : (b : ℕ) (bs : List ℕ) → list_all is_dot (b ∷ bs) ≡ true → (front : List ℕ) × (b ∷ bs ≡ front ++ 46 ∷ [])
-dots_end b [] h = ([], ap (λ c. c ∷ []) (equal_numbers b 46 (and_parts (is_dot b) true h).0))
+dots_end : (b : ℕ) (bs : List ℕ) → list_all is_dot (b ∷ bs) ≡ true → (front : List ℕ) × (b ∷ bs ≡ front ++ byte "." ∷ [])
+dots_end b [] h = ([], ap (λ c. c ∷ []) (equal_numbers b (byte ".") (and_parts (is_dot b) true h).0))
 dots_end b (c ∷ cs) h =
     let rest = dots_end c cs (and_parts (is_dot b) (list_all is_dot (c ∷ cs)) h).1 in
     (b ∷ rest.0, ap (λ ys. b ∷ ys) rest.1)
@@ -38,33 +38,33 @@ kept_step : (b : ℕ) (bs cut : List ℕ) (t : Bool) → list_all is_dot (b ∷ 
 kept_step b bs cut true e differs same = absurd (differs refl)
 kept_step b bs cut false e differs same = ap (λ ys. b ∷ ys) same
 
-no_dot_kept : (xs : List ℕ) → ((front : List ℕ) → xs ≢ front ++ 46 ∷ []) → without_last_dots xs ≡ xs
+no_dot_kept : (xs : List ℕ) → ((front : List ℕ) → xs ≢ front ++ byte "." ∷ []) → without_last_dots xs ≡ xs
 no_dot_kept [] f = refl
 no_dot_kept (b ∷ bs) f =
     kept_step b bs (without_last_dots bs) (list_all is_dot (b ∷ bs)) refl
     (λ all. let d = dots_end b bs all in f d.0 d.1)
     (no_dot_kept bs (λ front e. f (b ∷ front) (ap (λ ys. b ∷ ys) e)))
 
-pub dot_encoded : encode_utf8 46 ≡ 46 ∷ []
-dot_encoded = encode_ascii 46 (lit< tt)
+pub dot_encoded : encode_utf8 (byte ".") ≡ byte "." ∷ []
+dot_encoded = encode_ascii (byte ".") (lit< tt)
 
-suffix_cut : (m : List ℕ) (n : ℕ) → HasCharAt 46 m (length m - n) (length m) → m ≡ take (length m - n) m ++ 46 ∷ []
+suffix_cut : (m : List ℕ) (n : ℕ) → HasCharAt (byte ".") m (length m - n) (length m) → m ≡ take (length m - n) m ++ byte "." ∷ []
 suffix_cut m n at =
     sym (take-append-drop (length m - n) m)
     ∙ ap (λ ys. take (length m - n) m ++ ys) (at.split ∙ (λ i. dot_encoded i ++ drop-length m i))
 
-cuts_alike : (ns : List ℕ) (s r : List ℕ) → CutsSuffixes (FindsCharSuffix 46) s ns r → without_last_dots s ≡ without_last_dots r
+cuts_alike : (ns : List ℕ) (s r : List ℕ) → CutsSuffixes (FindsCharSuffix (byte ".")) s ns r → without_last_dots s ≡ without_last_dots r
 cuts_alike [] s r e = ap without_last_dots (sym e)
 cuts_alike (n ∷ ns) s r c =
     cuts_alike ns s c.0 c.1 ∙ ap without_last_dots (suffix_cut c.0 n c.2.1) ∙ last_dot (take (length c.0 - n) c.0)
     ∙ ap without_last_dots (sym c.3)
 
-dotless_stays : (r : List ℕ) (o : Option ℕ) → FindsCharSuffix 46 r o → IfSome o (λ n. n ≡ 0) → without_last_dots r ≡ r
+dotless_stays : (r : List ℕ) (o : Option ℕ) → FindsCharSuffix (byte ".") r o → IfSome o (λ n. n ≡ 0) → without_last_dots r ≡ r
 dotless_stays r None none zero = no_dot_kept r (λ front e. none front (e ∙ ap (λ d. front ++ d) (sym dot_encoded)))
 dotless_stays r (Some n) some zero = absurd (let one : n ≡ 1 = some.0 in omega arith)
 
 -- what the standard library cuts
-pub trim_cuts : (s r : List ℕ) → IsTrimEndMatches (FindsCharSuffix 46) s r → r ≡ without_last_dots s
+pub trim_cuts : (s r : List ℕ) → IsTrimEndMatches (FindsCharSuffix (byte ".")) s r → r ≡ without_last_dots s
 trim_cuts s r t = sym (cuts_alike t.0.0 s r t.0.1 ∙ dotless_stays r t.1.0 t.1.1 t.1.2)
 
 -- ---- what is kept

@@ -28,6 +28,7 @@ use Rattle.ifmap_ident.proofs.OptionalLaws.{leads_before, optional_then}
 use Rattle.ifmap_ident.proofs.PrintedLaws.{prints_as}
 use Rattle.ifmap_lemmas.specs.Orderings.{then_then}
 use Rattle.ifmap_lemmas.specs.Runs.{all_below}
+use Rattle.ifmap_elem.specs.Chars.{space_character, double_quote}
 
 -- ---- texts of addresses
 
@@ -37,9 +38,9 @@ plain_byte b h = grind (arith, nat_tests)
 above_quote : (b : ℕ) → IsAddressByte b → 34 < b
 above_quote b h = grind (arith, nat_tests)
 
-pub plain_text : (text : List ℕ) → AllByRecursion IsAddressByte text → closed_text Value text ≡ text ++ (34 ∷ [])
+pub plain_text : (text : List ℕ) → AllByRecursion IsAddressByte text → closed_text Value text ≡ text ++ (double_quote ∷ [])
 plain_text [] h = refl
-plain_text (b ∷ bs) h = (λ i. (plain_byte b h.0 i ++ placed_bytes Value bs) ++ (34 ∷ [])) ∙ ap (λ t. b ∷ t) (plain_text bs h.1)
+plain_text (b ∷ bs) h = (λ i. (plain_byte b h.0 i ++ placed_bytes Value bs) ++ (double_quote ∷ [])) ∙ ap (λ t. b ∷ t) (plain_text bs h.1)
 
 above_quotes : (text : List ℕ) → AllByRecursion IsAddressByte text → AllByRecursion (λ b. 34 < b) text
 above_quotes [] h = tt
@@ -50,7 +51,7 @@ plain_leads : (p q : List ℕ) → AllByRecursion IsAddressByte p → AllByRecur
 plain_leads p q f g =
     record {
       compares = λ x y. (λ i. slice_cmp nat_cmp ((plain_text p f i) ++ x) ((plain_text q g i) ++ y))
-          ∙ (λ i. slice_cmp nat_cmp (append_assoc p (34 ∷ []) x i) (append_assoc q (34 ∷ []) y i))
+          ∙ (λ i. slice_cmp nat_cmp (append_assoc p (double_quote ∷ []) x i) (append_assoc q (double_quote ∷ []) y i))
           ∙ closed_below 34 p q x y (above_quotes p f) (above_quotes q g);
     }
 
@@ -63,7 +64,8 @@ by_written o a b f =
 
 -- the domain, and then an attribute whose name begins with this letter
 domain_then : (o r : Ordering) (letter : ℕ) (d e s t : List ℕ) → 97 < letter → OptionalsLead o d e → FrontsCompare r s t
-    → FrontsCompare (ordering_then o r) (domain_written d ++ (32 ∷ (letter ∷ s))) (domain_written e ++ (32 ∷ (letter ∷ t)))
+    → FrontsCompare (ordering_then o r) (domain_written d ++ (space_character ∷ (letter ∷ s)))
+    (domain_written e ++ (space_character ∷ (letter ∷ t)))
 domain_then o r letter d e s t h f g = optional_then o r 97 letter (codes "dministrative-domain") d e s t h f g
 
 pub access_requests : (o r : Ordering) (n d m e : List ℕ) → OptionalsLead o d e

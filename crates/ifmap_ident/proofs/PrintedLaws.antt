@@ -20,6 +20,7 @@ use Rattle.ifmap_ident.specs.Written.{attribute_written, domain_written, identif
 use Rattle.ifmap_ident.specs.declared.identifiers.Identifier.{Identifier}
 use Rattle.ifmap_ident.specs.declared.identifiers.Identifier.TheVariants.{AccessRequest, Device, Identity, IpV4, IpV6, MacAddress}
 use Rattle.ifmap_ident.specs.declared.kinds.IdentityType.{IdentityType}
+use Rattle.ifmap_elem.specs.Chars.{less_than}
 
 -- an attribute by its local name and its value, and how it is printed
 abbrev attribute_of : List ℕ × List ℕ → Attribute
@@ -171,7 +172,7 @@ inner_bytes name =
     (at_child_text (List ℕ) (List ℕ) (child_piece no_prefixes) (element_piece no_prefixes) name)
 
 device_end : (text : List ℕ) → codes "<device>" ++ (((codes "<name>" ++ ((text ++ []) ++ codes "</name>")) ++ []) ++ codes "</device>")
-    ≡ codes "<device><name>" ++ ((text ++ (60 ∷ [])) ++ codes "/name></device>")
+    ≡ codes "<device><name>" ++ ((text ++ (less_than ∷ [])) ++ codes "/name></device>")
 device_end text = simp (append_assoc, append-nil)
 
 device_printed : (name : List ℕ) → identifier_bytes (Device name) ≡ identifier_written (Device name)

@@ -14,6 +14,7 @@ use Rattle.ifmap_ident.specs.Kinds.{identity_type_name}
 use Rattle.ifmap_ident.specs.Written.{attribute_written, closed_text, domain_written, optional_written, placed_bytes}
 use Rattle.ifmap_ident.proofs.OrderLaws.{plain_text}
 use Rattle.ifmap_ident.proofs.PrintedLaws.{prints_as}
+use Rattle.ifmap_elem.specs.Chars.{double_quote, less_than}
 
 pub access_request_size : (n d : List ℕ) → length (identifier_bytes (AccessRequest n d))
     ≡ length (domain_written d) + length (attribute_written (codes "name") n) + 17
@@ -24,7 +25,7 @@ access_request_size n d =
 
 pub device_size : (n : List ℕ) → length (identifier_bytes (Device n)) ≡ length (placed_bytes Content n) + 30
 device_size n =
-    let inner = length-append (placed_bytes Content n) (60 ∷ []) in
+    let inner = length-append (placed_bytes Content n) (less_than ∷ []) in
     let outer = length-append (closed_text Content n) (codes "/name></device>") in
     ap length (prints_as (Device n)) ∙ omega arith
 
@@ -49,7 +50,7 @@ identity_size n k u d =
     let other = optional_written (codes "other-type-definition") u in
     let type = attribute_written (codes "type") (identity_type_name k) in
     let plain = type_size k in
-    let closed = length-append (placed_bytes Value (identity_type_name k)) (34 ∷ []) in
+    let closed = length-append (placed_bytes Value (identity_type_name k)) (double_quote ∷ []) in
     let a = length-append type (codes "/>") in
     let b = length-append other (type ++ codes "/>") in
     let e = length-append name (other ++ (type ++ codes "/>")) in
@@ -60,7 +61,7 @@ identity_size n k u d =
 address_length : (front d text : List ℕ) → length (domain_written d ++ (front ++ (attribute_written (codes "value") text ++ codes "/>")))
     ≡ length (domain_written d) + length front + length (placed_bytes Value text) + 11
 address_length front d text =
-    let closed = length-append (placed_bytes Value text) (34 ∷ []) in
+    let closed = length-append (placed_bytes Value text) (double_quote ∷ []) in
     let a = length-append (attribute_written (codes "value") text) (codes "/>") in
     let b = length-append front (attribute_written (codes "value") text ++ codes "/>") in
     let e = length-append (domain_written d) (front ++ (attribute_written (codes "value") text ++ codes "/>")) in
@@ -68,8 +69,8 @@ address_length front d text =
 
 plain_length : (text : List ℕ) → AllByRecursion IsAddressByte text → length (placed_bytes Value text) ≡ length text
 plain_length text h =
-    let closed = length-append (placed_bytes Value text) (34 ∷ []) in
-    let other = length-append text (34 ∷ []) in
+    let closed = length-append (placed_bytes Value text) (double_quote ∷ []) in
+    let other = length-append text (double_quote ∷ []) in
     let same = ap length (plain_text text h) in
     omega arith
 

@@ -34,6 +34,7 @@ use Rattle.ifmap_lemmas.specs.Filters as filters
 use Rattle.ifmap_lemmas.specs.Texts.{ascii_encoded, is_ascii}
 use Rattle.std.proofs.lemmas.Option.{same_Some}
 use Rattle.ifmap_elem.specs.laws.CharacterLaws.{is_plain, plain_characters, characters_both, character_passes, one_character, no_characters}
+use Rattle.std.specs.Str.{byte}
 
 -- ---- addresses
 
@@ -104,16 +105,16 @@ over_others (b ∷ xs) rest f =
 high_is_no_dot : (b : ℕ) → 128 ≤ b → not (is_dot b) ≡ true
 high_is_no_dot b h = grind (arith, nat_tests)
 
-dot_first : (t : Bool) (xs : List ℕ) → IsCharacters xs → IsCharacters (cond t [] (46 ∷ xs))
+dot_first : (t : Bool) (xs : List ℕ) → IsCharacters xs → IsCharacters (cond t [] (byte "." ∷ xs))
 dot_first true xs h = no_characters
-dot_first false xs h = characters_both (46 ∷ []) xs (plain_characters (46 ∷ []) (refl, tt)) h
+dot_first false xs h = characters_both (byte "." ∷ []) xs (plain_characters (byte "." ∷ []) (refl, tt)) h
 
 dots_cut : (cs : List ℕ) → AllAre is_character cs → IsCharacters (without_last_dots (encode_utf8_all cs))
 dots_cut [] f = no_characters
 dots_cut (c ∷ cs) f = elim (cases_Bool (is_dot c)) [
   | inl dot ↦ subst (λ (x : List ℕ). IsCharacters (without_last_dots (x ++ encode_utf8_all cs)))
-      (sym (ap encode_utf8 (equal_numbers c 46 dot) ∙ dot_encoded))
-      (dot_first (list_all is_dot (46 ∷ encode_utf8_all cs)) (without_last_dots (encode_utf8_all cs)) (dots_cut cs f.1))
+      (sym (ap encode_utf8 (equal_numbers c (byte ".") dot) ∙ dot_encoded))
+      (dot_first (list_all is_dot (byte "." ∷ encode_utf8_all cs)) (without_last_dots (encode_utf8_all cs)) (dots_cut cs f.1))
   | inr other ↦ subst IsCharacters
       (sym (over_others (encode_utf8 c) (encode_utf8_all cs)
       (character_passes (λ b. not (is_dot b)) high_is_no_dot c (ap not other))))

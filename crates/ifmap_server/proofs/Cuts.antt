@@ -23,46 +23,58 @@ use Rattle.ifmap_server.specs.Frames.{IsHeader, word_text}
 use Rattle.ifmap_server.specs.Lines.{AreWords, HasNoSpace, words_line}
 use Rattle.ifmap_lemmas.specs.Splits.{without_from, without_at, before, after, before_at, after_at}
 use Rattle.ifmap_server.proofs.HeaderLines.{line_text, line_of, joined_right, decimal_without, word_without, word_parses, client_without}
+use Rattle.ifmap_elem.specs.Chars.{space_character}
+use Rattle.ifmap_server.specs.Characters.{at_sign}
 
 -- ---- a line as words
 
-pub cut_one : (t a b m x : List ℕ) → t ≡ a ++ 32 ∷ b → HasNoSpace a → t ≡ m ++ 32 ∷ x → HasNoSpace m → (a ≡ m) × (b ≡ x)
+pub cut_one : (t a b m x : List ℕ) → t ≡ a ++ space_character ∷ b → HasNoSpace a → t ≡ m ++ space_character ∷ x → HasNoSpace m
+    → (a ≡ m) × (b ≡ x)
 cut_one t a b m x e na f nm = (
-  sym (before_at 32 a b (without_from 32 a na)) ∙ ap (before 32) (sym e ∙ f) ∙ before_at 32 m x (without_from 32 m nm),
-  sym (after_at 32 a b (without_from 32 a na)) ∙ ap (after 32) (sym e ∙ f) ∙ after_at 32 m x (without_from 32 m nm),
+  sym (before_at space_character a b (without_from space_character a na)) ∙ ap (before space_character) (sym e ∙ f)
+      ∙ before_at space_character m x (without_from space_character m nm),
+  sym (after_at space_character a b (without_from space_character a na)) ∙ ap (after space_character) (sym e ∙ f)
+      ∙ after_at space_character m x (without_from space_character m nm),
 )
 
-no_cut : (t m x : List ℕ) → HasNoSpace t → t ≡ m ++ 32 ∷ x → ⊥
+no_cut : (t m x : List ℕ) → HasNoSpace t → t ≡ m ++ space_character ∷ x → ⊥
 no_cut t m x none e =
-    none (length m) (omega (arith, ap length e, length-append m (32 ∷ x)))
-    (ap (λ (l : List ℕ). get_or l (length m) 0) e ∙ ap (λ (n : ℕ). get_or (m ++ 32 ∷ x) n 0) (omega arith)
-    ∙ get_or-append-add m (32 ∷ x) 0 0)
+    none (length m) (omega (arith, ap length e, length-append m (space_character ∷ x)))
+    (ap (λ (l : List ℕ). get_or l (length m) 0) e ∙ ap (λ (n : ℕ). get_or (m ++ space_character ∷ x) n 0) (omega arith)
+    ∙ get_or-append-add m (space_character ∷ x) 0 0)
 
-words_after : (line words m c r s : List ℕ) → line ≡ 64 ∷ words → AreWords line m c r s → words ≡ m ++ 32 ∷ (c ++ 32 ∷ (r ++ 32 ∷ s))
+words_after : (line words m c r s : List ℕ) → line ≡ at_sign ∷ words → AreWords line m c r s
+    → words ≡ m ++ space_character ∷ (c ++ space_character ∷ (r ++ space_character ∷ s))
 words_after line words m c r s e w = ap (drop 1) (sym e ∙ w.text ∙ joined_right m c r s)
 
-pub no_sign : (line : List ℕ) → ((rest : List ℕ) → line ≢ 64 ∷ rest) → (m c r s : List ℕ) → AreWords line m c r s → ⊥
-no_sign line none m c r s w = none (m ++ 32 ∷ (c ++ 32 ∷ (r ++ 32 ∷ s))) (w.text ∙ joined_right m c r s)
+pub no_sign : (line : List ℕ) → ((rest : List ℕ) → line ≢ at_sign ∷ rest) → (m c r s : List ℕ) → AreWords line m c r s → ⊥
+no_sign line none m c r s w = none (m ++ space_character ∷ (c ++ space_character ∷ (r ++ space_character ∷ s)))
+    (w.text ∙ joined_right m c r s)
 
-pub no_first : (line words : List ℕ) → line ≡ 64 ∷ words → HasNoSpace words → (m c r s : List ℕ) → AreWords line m c r s → ⊥
-no_first line words e none m c r s w = no_cut words m (c ++ 32 ∷ (r ++ 32 ∷ s)) none (words_after line words m c r s e w)
+pub no_first : (line words : List ℕ) → line ≡ at_sign ∷ words → HasNoSpace words → (m c r s : List ℕ) → AreWords line m c r s → ⊥
+no_first line words e none m c r s w = no_cut words m (c ++ space_character ∷ (r ++ space_character ∷ s)) none
+    (words_after line words m c r s e w)
 
-pub no_second : (line words a rest : List ℕ) → line ≡ 64 ∷ words → (words ≡ a ++ 32 ∷ rest) × HasNoSpace a → HasNoSpace rest
+pub no_second : (line words a rest : List ℕ) → line ≡ at_sign ∷ words → (words ≡ a ++ space_character ∷ rest) × HasNoSpace a
+    → HasNoSpace rest
     → (m c r s : List ℕ) → AreWords line m c r s → ⊥
 no_second line words a rest e f none m c r s w =
-    no_cut rest c (r ++ 32 ∷ s) none (cut_one words a rest m (c ++ 32 ∷ (r ++ 32 ∷ s)) f.0 f.1 (words_after line words m c r s e w)
+    no_cut rest c (r ++ space_character ∷ s) none
+    (cut_one words a rest m (c ++ space_character ∷ (r ++ space_character ∷ s)) f.0 f.1 (words_after line words m c r s e w)
     w.moment).1
 
-pub no_third : (line words a rest b more : List ℕ) → line ≡ 64 ∷ words → (words ≡ a ++ 32 ∷ rest) × HasNoSpace a
-    → (rest ≡ b ++ 32 ∷ more) × HasNoSpace b → HasNoSpace more → (m c r s : List ℕ) → AreWords line m c r s → ⊥
+pub no_third : (line words a rest b more : List ℕ) → line ≡ at_sign ∷ words → (words ≡ a ++ space_character ∷ rest) × HasNoSpace a
+    → (rest ≡ b ++ space_character ∷ more) × HasNoSpace b → HasNoSpace more → (m c r s : List ℕ) → AreWords line m c r s → ⊥
 no_third line words a rest b more e f g none m c r s w =
-    no_cut more r s none (cut_one rest b more c (r ++ 32 ∷ s) g.0 g.1
-    (cut_one words a rest m (c ++ 32 ∷ (r ++ 32 ∷ s)) f.0 f.1 (words_after line words m c r s e w) w.moment).1 w.client).1
+    no_cut more r s none (cut_one rest b more c (r ++ space_character ∷ s) g.0 g.1
+    (cut_one words a rest m (c ++ space_character ∷ (r ++ space_character ∷ s)) f.0 f.1
+    (words_after line words m c r s e w) w.moment).1 w.client).1
 
-pub are_words : (line words a rest b more d s : List ℕ) → line ≡ 64 ∷ words → (words ≡ a ++ 32 ∷ rest) × HasNoSpace a
-    → (rest ≡ b ++ 32 ∷ more) × HasNoSpace b → (more ≡ d ++ 32 ∷ s) × HasNoSpace d → AreWords line a b d s
+pub are_words : (line words a rest b more d s : List ℕ) → line ≡ at_sign ∷ words → (words ≡ a ++ space_character ∷ rest) × HasNoSpace a
+    → (rest ≡ b ++ space_character ∷ more) × HasNoSpace b → (more ≡ d ++ space_character ∷ s) × HasNoSpace d → AreWords line a b d s
 are_words line words a rest b more d s e f g h = record {
-  text = e ∙ ap (λ (l : List ℕ). 64 ∷ l) (f.0 ∙ ap (λ (l : List ℕ). a ++ 32 ∷ l) (g.0 ∙ ap (λ (l : List ℕ). b ++ 32 ∷ l) h.0))
+  text = e ∙ ap (λ (l : List ℕ). at_sign ∷ l)
+      (f.0 ∙ ap (λ (l : List ℕ). a ++ space_character ∷ l) (g.0 ∙ ap (λ (l : List ℕ). b ++ space_character ∷ l) h.0))
       ∙ sym (joined_right a b d s);
   moment = f.1;
   client = g.1;
@@ -79,9 +91,11 @@ pub words_one : (line a b d s m c r z : List ℕ) → AreWords line a b d s → 
 words_one line a b d s m c r z v w =
     let e = ap (drop 1) (v.text ∙ joined_right a b d s) in
     let f = ap (drop 1) (w.text ∙ joined_right m c r z) in
-    let first = cut_one (drop 1 line) a (b ++ 32 ∷ (d ++ 32 ∷ s)) m (c ++ 32 ∷ (r ++ 32 ∷ z)) e v.moment f w.moment in
-    let second = cut_one (b ++ 32 ∷ (d ++ 32 ∷ s)) b (d ++ 32 ∷ s) c (r ++ 32 ∷ z) refl v.client first.1 w.client in
-    let third = cut_one (d ++ 32 ∷ s) d s r z refl v.random second.1 w.random in
+    let first = cut_one (drop 1 line) a (b ++ space_character ∷ (d ++ space_character ∷ s)) m
+    (c ++ space_character ∷ (r ++ space_character ∷ z)) e v.moment f w.moment in
+    let second = cut_one (b ++ space_character ∷ (d ++ space_character ∷ s)) b (d ++ space_character ∷ s) c
+    (r ++ space_character ∷ z) refl v.client first.1 w.client in
+    let third = cut_one (d ++ space_character ∷ s) d s r z refl v.random second.1 w.random in
     record { moment = first.0; client = second.0; random = third.0; size = third.1 }
 
 -- ---- a header's line
@@ -90,9 +104,10 @@ pub header_words : (line : List ℕ) (h : Header) → IsHeader line h
     → AreWords line (decimal h.moment) h.client (word_text h.random) (decimal h.size)
 header_words line h is = record {
   text = line_of line h is;
-  moment = without_at 32 (decimal h.moment) (decimal_without 32 h.moment (λ r. omega arith) (let m = is.moment in omega arith));
-  client = without_at 32 h.client (client_without 32 h.client refl is.client);
-  random = without_at 32 (word_text h.random) (word_without 32 h.random (omega arith));
+  moment = without_at space_character (decimal h.moment)
+      (decimal_without space_character h.moment (λ r. omega arith) (let m = is.moment in omega arith));
+  client = without_at space_character h.client (client_without space_character h.client refl is.client);
+  random = without_at space_character (word_text h.random) (word_without space_character h.random (omega arith));
 }
 
 word_ascii : (n : ℕ) → IsAscii (word_text n)
@@ -106,10 +121,11 @@ client_ascii (b ∷ bs) all = let p = and_parts (is_client_byte b) (list_all is_
 
 joined_ascii : (m c r s : List ℕ) → IsAscii m → IsAscii c → IsAscii r → IsAscii s → IsAscii (words_line m c r s)
 joined_ascii m c r s am ac ar as_ =
-    IsAscii-append (64 ∷ m ++ 32 ∷ c ++ 32 ∷ r) (32 ∷ s)
-    (IsAscii-append (64 ∷ m ++ 32 ∷ c) (32 ∷ r) (IsAscii-append (64 ∷ m) (32 ∷ c) (IsAscii-cons 64 m (omega arith) am)
-    (IsAscii-cons 32 c (omega arith) ac)) (IsAscii-cons 32 r (omega arith) ar))
-    (IsAscii-cons 32 s (omega arith) as_)
+    IsAscii-append (at_sign ∷ m ++ space_character ∷ c ++ space_character ∷ r) (space_character ∷ s)
+    (IsAscii-append (at_sign ∷ m ++ space_character ∷ c) (space_character ∷ r)
+    (IsAscii-append (at_sign ∷ m) (space_character ∷ c) (IsAscii-cons at_sign m (omega arith) am)
+    (IsAscii-cons space_character c (omega arith) ac)) (IsAscii-cons space_character r (omega arith) ar))
+    (IsAscii-cons space_character s (omega arith) as_)
 
 pub header_utf8 : (line : List ℕ) (h : Header) → IsHeader line h → IsUtf8 line
 header_utf8 line h is =

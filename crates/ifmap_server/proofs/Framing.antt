@@ -27,7 +27,7 @@ newline_within : (line bytes : List ℕ) (f : Frame) (rest : List ℕ) → Begin
     → length line + 1 + (length f.body + length rest) ≡ length bytes
 newline_within line bytes f rest w =
     let e = ap length w.text in
-    omega (arith, length-append line (10 ∷ (f.body ++ rest)), length-append f.body rest)
+    omega (arith, length-append line (line_feed ∷ (f.body ++ rest)), length-append f.body rest)
 
 -- where no line is, no frame begins
 pub no_line_none : (offset : ℕ) (bytes : List ℕ) → HasNoLine bytes → BeginsNone offset bytes
@@ -101,8 +101,8 @@ is_framed offset bytes place there is header start end within ends =
     let long : length (take place bytes) ≡ place = length-take-le place bytes (omega arith) in
     let left = length-drop there.start bytes in
     let size : length body ≡ h.size = length-take-le (there.end - there.start) (drop there.start bytes) (omega arith) ∙ omega arith in
-    let text : bytes ≡ take place bytes ++ 10 ∷ (body ++ drop there.end bytes) =
-    (cut_at_first_place line_feed bytes place is.first).0 ∙ ap (λ (b : List ℕ). take place bytes ++ 10 ∷ b) (ap
+    let text : bytes ≡ take place bytes ++ line_feed ∷ (body ++ drop there.end bytes) =
+    (cut_at_first_place line_feed bytes place is.first).0 ∙ ap (λ (b : List ℕ). take place bytes ++ line_feed ∷ b) (ap
     (λ (n : ℕ). drop n bytes) (sym start) ∙ drop_split bytes there.start there.end (omega arith)) in
     let frame : Frame = frame_within there bytes unread in
     let same : header_of_frame frame ≡ h =

@@ -25,22 +25,22 @@ frame_within : (f : Frame) → IsFrame f → IsWithin (header_of_frame f)
 frame_within f is = record { moment = is.moment; client = is.client; random = is.random; size = is.body }
 
 -- a frame's text is a line, a newline and the body
-pub frame_line : (f : Frame) → frame_text f ≡ line_text (header_of_frame f) ++ 10 ∷ f.body
-frame_line f = push_append (line_text (header_of_frame f)) 10 f.body
+pub frame_line : (f : Frame) → frame_text f ≡ line_text (header_of_frame f) ++ line_feed ∷ f.body
+frame_line f = push_append (line_text (header_of_frame f)) line_feed f.body
 
 pub frame_length : (f : Frame) → length (frame_text f) ≡ length (line_text (header_of_frame f)) + 1 + length f.body
-frame_length f = let e = frame_line f in ap length e ∙ omega (arith, length-append (line_text (header_of_frame f)) (10 ∷ f.body))
+frame_length f = let e = frame_line f in ap length e ∙ omega (arith, length-append (line_text (header_of_frame f)) (line_feed ∷ f.body))
 
 -- where a frame begins, the bytes up to the first newline are its header
 pub record BeginsWith (line bytes : List ℕ) (f : Frame) (rest : List ℕ) : Type 0 where
   pub header : IsHeader line (header_of_frame f)
-  pub text : bytes ≡ line ++ 10 ∷ (f.body ++ rest)
+  pub text : bytes ≡ line ++ line_feed ∷ (f.body ++ rest)
   pub size : length (frame_text f) ≡ length line + 1 + length f.body
   pub no_newline : HasNone line_feed line
   pub short : length line ≤ 96
 
-cut_line : (a b c : List ℕ) → a ++ 10 ∷ b ++ c ≡ a ++ 10 ∷ (b ++ c)
-cut_line a b c = append_assoc a (10 ∷ b) c
+cut_line : (a b c : List ℕ) → a ++ line_feed ∷ b ++ c ≡ a ++ line_feed ∷ (b ++ c)
+cut_line a b c = append_assoc a (line_feed ∷ b) c
 
 begins_with : (offset : ℕ) (bytes : List ℕ) (f : Frame) (rest : List ℕ) → BeginsFrame offset bytes f rest
     → BeginsWith (line_text (header_of_frame f)) bytes f rest
@@ -50,7 +50,7 @@ begins_with offset bytes f rest b =
       header = is_header (header_of_frame f) w;
       text = b.text ∙ ap (λ (t : List ℕ). t ++ rest) (frame_line f) ∙ cut_line (line_text (header_of_frame f)) f.body rest;
       size = frame_length f;
-      no_newline = without_at 10 (line_text (header_of_frame f)) (line_without (header_of_frame f) w);
+      no_newline = without_at line_feed (line_text (header_of_frame f)) (line_without (header_of_frame f) w);
       short = line_length (header_of_frame f) w;
     }
 
@@ -59,7 +59,7 @@ pub begins_line : (offset : ℕ) (bytes : List ℕ) (f : Frame) (rest : List ℕ
 begins_line offset bytes f rest b = (line_text (header_of_frame f), begins_with offset bytes f rest b)
 
 -- and where a header stands, with its body after it, its frame begins
-pub line_begins : (offset : ℕ) (bytes line body rest : List ℕ) (h : Header) → bytes ≡ line ++ 10 ∷ (body ++ rest) → IsHeader line h
+pub line_begins : (offset : ℕ) (bytes line body rest : List ℕ) (h : Header) → bytes ≡ line ++ line_feed ∷ (body ++ rest) → IsHeader line h
     → length body ≡ h.size → offset + (length line + 1 + h.size) ≤ longest_script → (meaning : Meaning)
     → BeginsFrame offset bytes (frame_of h body meaning) rest
 line_begins offset bytes line body rest h text is size ends meaning =
@@ -72,22 +72,22 @@ line_begins offset bytes line body rest h text is size ends meaning =
       fits = record { moment = is.moment; client = is.client; random = is.random; body = rw size is.size };
       text = text ∙ sym (ap (λ (t : List ℕ). t ++ rest) (frame_line (frame_of h body meaning))
           ∙ cut_line (line_text (header_of_frame (frame_of h body meaning))) body rest
-          ∙ ap (λ (l : List ℕ). l ++ 10 ∷ (body ++ rest)) (sym here));
+          ∙ ap (λ (l : List ℕ). l ++ line_feed ∷ (body ++ rest)) (sym here));
       ends = omega arith;
     }
 
 -- ---- a frame that begins is the only one but for its meaning
 
 pub read_header : List ℕ → Header
-read_header bytes = read_line (before 10 bytes)
+read_header bytes = read_line (before line_feed bytes)
 
 -- what a reader finds is the frame's
 pub record Reads (bytes : List ℕ) (f : Frame) (rest : List ℕ) : Type 0 where
   pub header : read_header bytes ≡ header_of_frame f
-  pub body : take (read_header bytes).size (after 10 bytes) ≡ f.body
-  pub rest_is : drop (read_header bytes).size (after 10 bytes) ≡ rest
+  pub body : take (read_header bytes).size (after line_feed bytes) ≡ f.body
+  pub rest_is : drop (read_header bytes).size (after line_feed bytes) ≡ rest
 
-read_is : (bytes : List ℕ) (f : Frame) (rest : List ℕ) → read_header bytes ≡ header_of_frame f → after 10 bytes ≡ f.body ++ rest
+read_is : (bytes : List ℕ) (f : Frame) (rest : List ℕ) → read_header bytes ≡ header_of_frame f → after line_feed bytes ≡ f.body ++ rest
     → Reads bytes f rest
 read_is bytes f rest e b = record {
   header = e;
@@ -100,10 +100,11 @@ unfolding read_header
 reads offset bytes f rest b =
     let w = frame_within f b.fits in
     let line = line_text (header_of_frame f) in
-    let text : bytes ≡ line ++ 10 ∷ (f.body ++ rest) = (begins_with offset bytes f rest b).text in
-    let front : before 10 bytes ≡ line = ap (before 10) text ∙ before_at 10 line (f.body ++ rest) (line_without (header_of_frame f) w) in
-    let back : after 10 bytes ≡ f.body ++ rest = ap (after 10) text
-    ∙ after_at 10 line (f.body ++ rest) (line_without (header_of_frame f) w) in
+    let text : bytes ≡ line ++ line_feed ∷ (f.body ++ rest) = (begins_with offset bytes f rest b).text in
+    let front : before line_feed bytes ≡ line = ap (before line_feed) text ∙ before_at line_feed line (f.body ++ rest)
+    (line_without (header_of_frame f) w) in
+    let back : after line_feed bytes ≡ f.body ++ rest = ap (after line_feed) text
+    ∙ after_at line_feed line (f.body ++ rest) (line_without (header_of_frame f) w) in
     read_is bytes f rest (ap read_line front ∙ header_of_line_one line (header_of_frame f) (is_header (header_of_frame f) w)) back
 
 -- two frames are alike but for their meanings, and so is what comes after them
@@ -130,7 +131,7 @@ pub begins_shorter : (offset : ℕ) (bytes : List ℕ) (f : Frame) (rest : List 
     bytes
 begins_shorter offset bytes f rest b =
     let text = (begins_with offset bytes f rest b).text in
-    omega (arith, ap length text, length-append (line_text (header_of_frame f)) (10 ∷ (f.body ++ rest)), length-append f.body rest)
+    omega (arith, ap length text, length-append (line_text (header_of_frame f)) (line_feed ∷ (f.body ++ rest)), length-append f.body rest)
 
 nothing_begins : (offset : ℕ) (bytes : List ℕ) (f : Frame) (rest : List ℕ) → bytes ≡ [] → BeginsFrame offset bytes f rest → ⊥
 nothing_begins offset bytes f rest e b = let s = begins_shorter offset bytes f rest b in let l : length bytes ≡ 0 = ap length e in
