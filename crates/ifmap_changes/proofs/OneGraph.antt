@@ -11,7 +11,7 @@ use Rattle.ifmap_ident.specs.declared.items.Item.{Item}
 use Rattle.ifmap_ident.specs.Items.{IsCanonItem, item_order, same_item, items_tie}
 use Rattle.ifmap_lemmas.specs.Emptiness.{first_there}
 use Rattle.ifmap_lemmas.specs.Filters.{all_weaker, filter_none}
-use Rattle.ifmap_lemmas.specs.Orderings.{first_of_less, greater_turned}
+use Rattle.ifmap_lemmas.specs.Orderings.{first_of_less, greater_reversed}
 use Rattle.ifmap_meta.specs.declared.stored.Stored.{Stored}
 use Rattle.ifmap_graph.specs.ifmap_view.declared.attachments.Attachment.{Attachment}
 use Rattle.ifmap_graph.specs.ifmap_view.Attachments.{IsGraph, attachment_order, stored_order}
@@ -50,7 +50,7 @@ firsts a b xs ys up vp same = by (item_order a.item b.item) refl
     by Less is = absurd (first_there a.stored (stored_on a.item xs) (sym (first_stored a xs) ∙ same a.item ∙ none_below a.item b ys is vp))
     by Equal is = is
     by Greater is = absurd (first_there b.stored (stored_on b.item ys) (sym (first_stored b ys) ∙ sym (same b.item)
-        ∙ none_below b.item a xs (greater_turned items_total a.item b.item is) up))
+        ∙ none_below b.item a xs (greater_reversed items_total a.item b.item is) up))
 
 first_same : (a b : Attachment) (xs ys : List Attachment) → a.item ≡ b.item → Alike (a ∷ xs) (b ∷ ys) → a ≡ b
 first_same a b xs ys item same =

@@ -14,7 +14,7 @@ use Rattle.std.specs.Option.{IsSome}
 use Rattle.std.specs.Ordering.{nat_cmp}
 use Rattle.ifmap_lemmas.specs.AnyOf.{any_alike, any_of_both, any_of_map}
 use Rattle.ifmap_lemmas.specs.Filters.{all_filter, all_weaker, filter_alike, map_filter}
-use Rattle.ifmap_lemmas.specs.Flags.{kept_later, marks_stay}
+use Rattle.ifmap_lemmas.specs.Flags.{kept_later, flags_stay}
 use Rattle.ifmap_lemmas.specs.Having.{Has, filter_has, has_filter, has_map, all_has, has_all}
 use Rattle.ifmap_lemmas.specs.Mapped.{alike_maps, map_twice, mapped_long, maps_alike, some_joined, zip_mapped}
 use Rattle.ifmap_lemmas.specs.Members.{map_of_all}
@@ -290,8 +290,8 @@ module _ {a : Asking} {old : Parts} {before : Pending} {notes : List Note} {stan
     gone_stays i e =
         let long = mapped_long (λ (p : Bool × News). p.0 || p.1.is_too_big) gone_flags news (flags_now ∙ sym long_news)
         in ap (λ g. slice_get g i) is_gone
-        ∙ marks_stay (λ (x : Standing). is_alone_at x.serial) (flags_since gone_flags news) stand_now (long ∙ long_news) i
-        (marks_stay (λ (one : News). one.is_too_big) gone_flags news (flags_now ∙ sym long_news) i e)
+        ∙ flags_stay (λ (x : Standing). is_alone_at x.serial) (flags_since gone_flags news) stand_now (long ∙ long_news) i
+        (flags_stay (λ (one : News). one.is_too_big) gone_flags news (flags_now ∙ sym long_news) i e)
 
     flags_after : length after.gone.items ≡ length stand_now
     flags_after =

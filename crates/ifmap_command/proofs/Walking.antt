@@ -1,7 +1,7 @@
 -- What a parse of the command comes to, where no word is an option. A walk over words stops at the name of a subcommand, which has
--- the rest of them: `stopped_walk` and `stopped_faults`, by induction over the rest. `replay_faults` and its like join the two for a name,
--- `unnamed_word_fails` says that another first word fails, and so does no word at all. `found_words` is what an `Ok` shows, and `failed_words` what an
--- `Err` does.
+-- the rest of them: `stopped_walk` and `stopped_faults`, by induction over the rest. `replay_faults` and its like join the two for a
+-- name, `unnamed_word_fails` says that another first word fails, and so does no word at all. `found_words` is what an `Ok` shows, and
+-- `failed_words` what an `Err` does.
 use Rattle.std.proofs.Common.{◌≡◌, ◌∙◌, ℕ, Bool, true, false, List, [], ◌∷◌, ◌++◌, Option, Some, None, arith, append-nil, append_assoc, codes, refl, sym, ap, ap₂, subst, inl, inr, ◌⊎◌}
 use Rattle.std.proofs.lemmas.Slice.Eq.{bytes_eq-Decides}
 use Rattle.std.specs.List.{fold, list_any, slice_index_or}

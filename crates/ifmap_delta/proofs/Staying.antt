@@ -1,5 +1,5 @@
 -- A change of whose items no end has a mark. In order: what is so of one change (`far_change`); no flip counts (`no_flips`), so
--- the marks are those afterwards (`marks_stay`); the search looks at none of the items, before or afterwards (`far_looked`);
+-- the marks are those afterwards (`flags_stay`); the search looks at none of the items, before or afterwards (`far_looked`);
 -- so nothing is gathered, and each item tells nothing (`all_settled`).
 use Rattle.std.proofs.Common.{◌≡◌, ◌∙◌, inl, inr, ℕ, Bool, true, false, ◌||◌, Option, Some, None, List, [], ◌∷◌, ◌++◌}
 use Rattle.std.proofs.Common.{refl, ap, subst}
@@ -67,8 +67,8 @@ module _ (tells : BytesTellIdentifiers) (old new : ViewSeen) (s : Search) (was :
   }
 
   -- the marks are those afterwards
-  pub marks_stay : AreMarks new s start top mark
-  marks_stay =
+  pub flags_stay : AreMarks new s start top mark
+  flags_stay =
       repaired_marks tells old new s was is changes change start top mark before [] no_flips mark
       (depths_over (region.Old (Links new s) []) (Links new s) (is_terminal_in new s) (is_terminal_in new s) start top
       (λ u v t l. (
@@ -88,12 +88,12 @@ module _ (tells : BytesTellIdentifiers) (old new : ViewSeen) (s : Search) (was :
     far_reached a i None n m = (
       not_reached reach expand old s was start top mark before keeps a i
           (λ v e. number_none new a None n refl v (change.numbers v a e)),
-      not_reached reach expand new s is start top mark marks_stay keeps' a i (number_none new a None n refl),
+      not_reached reach expand new s is start top mark flags_stay keeps' a i (number_none new a None n refl),
     )
     far_reached a i (Some v) n m = (
-      reached_before tells reach expand old new s was is changes change start top start top mark mark before marks_stay keeps keeps'
+      reached_before tells reach expand old new s was is changes change start top start top mark mark before flags_stay keeps keeps'
           v a (number_found new a (Some v) v n refl) ∙ m,
-      reached_is reach expand new s is start top mark marks_stay keeps' v a (number_found new a (Some v) v n refl) ∙ m,
+      reached_is reach expand new s is start top mark flags_stay keeps' v a (number_found new a (Some v) v n refl) ∙ m,
     )
 
     -- and no walk goes on from it
@@ -102,14 +102,14 @@ module _ (tells : BytesTellIdentifiers) (old new : ViewSeen) (s : Search) (was :
     far_expanded a i None n m = (
       not_expanded reach expand old s was start top mark before keeps a i
           (λ v e. number_none new a None n refl v (change.numbers v a e)),
-      not_expanded reach expand new s is start top mark marks_stay keeps' a i (number_none new a None n refl),
+      not_expanded reach expand new s is start top mark flags_stay keeps' a i (number_none new a None n refl),
     )
     far_expanded a i (Some v) n m =
         let none : goes_on s (new.id_at v) (mark v) ≡ false = ap (goes_on s (new.id_at v)) (none_where_not_some (mark v) m)
         in (
-          expanded_before tells reach expand old new s was is changes change start top start top mark mark before marks_stay keeps keeps'
+          expanded_before tells reach expand old new s was is changes change start top start top mark mark before flags_stay keeps keeps'
               v a (number_found new a (Some v) v n refl) ∙ none,
-          expanded_is reach expand new s is start top mark marks_stay keeps' v a (number_found new a (Some v) v n refl) ∙ none,
+          expanded_is reach expand new s is start top mark flags_stay keeps' v a (number_found new a (Some v) v n refl) ∙ none,
         )
 
     far_at : (x : Item) → IsCanonItem x → (l : LocatedChange) → IsLocatedTwice old new x l → is_near mark l ≡ false
@@ -145,5 +145,5 @@ module _ (tells : BytesTellIdentifiers) (old new : ViewSeen) (s : Search) (was :
     -- each item tells nothing
     pub all_settled : (x : Item) → IsCanonItem x → HasNothingToTell old new s x
     all_settled x i =
-        ungathered_stay tells reach expand old new s was is changes change start top start top mark mark before marks_stay keeps keeps' []
+        ungathered_stay tells reach expand old new s was is changes change start top start top mark mark before flags_stay keeps keeps' []
         (λ v d. absurd (d refl)) x i (none_gathered x)

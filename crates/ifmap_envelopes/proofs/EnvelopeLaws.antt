@@ -18,7 +18,7 @@ use Rattle.ifmap_elem.specs.declared.elements.Child.{Child, out-Child}
 use Rattle.ifmap_elem.specs.declared.elements.Child.TheOpen.{Child-F}
 use Rattle.ifmap_elem.specs.declared.elements.Element.{Element}
 use Rattle.ifmap_elem.specs.declared.elements.Name.{Name}
-use Rattle.ifmap_forms.specs.PositionLaws.{at_place, no_place, place_is}
+use Rattle.ifmap_lemmas.specs.Positions.{at_place, no_place, place_is}
 use Rattle.ifmap_elem.specs.WhiteSpace.{is_blank_part}
 use Rattle.ifmap_forms.specs.Tables.{Part, parts_in}
 use Rattle.ifmap_lemmas.specs.Texts.{eq_itself, eq_tells}

@@ -10,7 +10,7 @@ use Rattle.ifmap_filter.specs.declared.filters.Filter.{Filter}
 use Rattle.ifmap_filter.specs.declared.tokens.FilterToken.{FilterToken}
 use Rattle.ifmap_filter.specs.Grammar.{IsFilter, depth_limit}
 use Rattle.ifmap_filter.specs.Laws.{FilterOrStop, OneFilter, OnePlace, StopsWhereNone}
-use Rattle.ifmap_filter.specs.Progress.{IsFilterFrom, FilterState, Start, open_parts, step_token, filter_at}
+use Rattle.ifmap_filter.specs.Progress.{IsFilterFrom, FilterState, Start, open_parts, follow_token, filter_at}
 use Rattle.ifmap_filter.specs.Reaching.{ReadsTo}
 use Rattle.ifmap_filter.specs.Texts.{BeginsFilter, StopsAt, WritesFilter, token_offset}
 use Rattle.ifmap_filter.specs.Tokens.{HasNoToken, FrontToken, Takes, token_at, without_white}
@@ -29,7 +29,7 @@ module _ (text : List ℕ) (scope : Scope) where
 
   module _ (cs : List ℕ) (shorter : (ds : List ℕ) → length ds < length cs → Reads ds) (w : FilterState) (r : ReadsTo text scope w cs) where
     at_token : (t : FilterToken) (rest : List ℕ) → Takes cs t rest
-        → ((next : FilterState) × (step_token scope w t ≡ Some next)) ⊎ (step_token scope w t ≡ None)
+        → ((next : FilterState) × (follow_token scope w t ≡ Some next)) ⊎ (follow_token scope w t ≡ None)
         → Outcome
     at_token t rest takes (inl (next, is)) =
         shorter rest (later_length cs rest (taken_later cs t rest takes)) next (next_place text scope w cs r t rest takes next is)
@@ -45,7 +45,7 @@ module _ (text : List ℕ) (scope : Scope) where
         inr (token_offset text cs, stops_where_none text scope w cs r none (λ e. let wrong : [] ≡ d ∷ ds = sym e ∙ some in cc))
 
     reads_on : ((k : FrontToken) × (token_at (without_white cs) ≡ Some k)) ⊎ (token_at (without_white cs) ≡ None) → Outcome
-    reads_on (inl (k, is)) = at_token k.token k.rest is (value_or_none (step_token scope w k.token))
+    reads_on (inl (k, is)) = at_token k.token k.rest is (value_or_none (follow_token scope w k.token))
     reads_on (inr none) = at_none none (without_white cs) refl
 
   reads : (cs : List ℕ) → Reads cs
@@ -71,7 +71,7 @@ module _ (scope : Scope) where
 
   one : (ts : List FilterToken) (n : ℕ) (w : FilterState) → n + open_parts w ≡ depth_limit → IsOne n w ts
   one [] n w e = one_at_end n w (filter_at w) (ends scope n w)
-  one (t ∷ ts) n w e = one_after n w t ts (step_token scope w t) (λ m next f. one ts m next f) (steps_right scope n w e t)
+  one (t ∷ ts) n w e = one_after n w t ts (follow_token scope w t) (λ m next f. one ts m next f) (steps_right scope n w e t)
 
   pub tokens_are_one : (ts : List FilterToken) (f g : Filter) → IsFilter scope ts f → IsFilter scope ts g → f ≡ g
   tokens_are_one ts = one ts depth_limit Start (omega arith)

@@ -14,7 +14,7 @@ use Rattle.ifmap_prefixes.specs.ifmap_reader.declared.scoping.Scope.{Scope}
 use Rattle.ifmap_filter.specs.declared.filters.Filter.{Filter}
 use Rattle.ifmap_filter.specs.declared.tokens.FilterToken.{FilterToken}
 use Rattle.ifmap_filter.specs.Grammar.{IsFilter, depth_limit}
-use Rattle.ifmap_filter.specs.Progress.{IsFilterFrom, FilterState, Start, step_token, filter_at}
+use Rattle.ifmap_filter.specs.Progress.{IsFilterFrom, FilterState, Start, follow_token, filter_at}
 use Rattle.ifmap_filter.specs.Reaching.{ReadsTo}
 use Rattle.ifmap_filter.specs.Texts.{BeginsFilter, StopsAt, WritesFilter, token_offset}
 use Rattle.ifmap_filter.specs.Tokens.{HasNoToken, FrontToken, Takes, after_while, closed_literal, front_while, literal_at, name_at, name_from, name_token, part_bytes, prefixed_name_at, symbol_of, front_token, token_at, with_symbol, without_white}
@@ -163,7 +163,7 @@ module _ (text : List ℕ) (scope : Scope) where
         let g = goes_on scope r.room w in
         record { more = g.1; filter = g.0; filter_is = (r.goes g.0 g.1).1 g.2 }
 
-    pub next_place : (t : FilterToken) (rest : List ℕ) → Takes cs t rest → (next : FilterState) → step_token scope w t ≡ Some next
+    pub next_place : (t : FilterToken) (rest : List ℕ) → Takes cs t rest → (next : FilterState) → follow_token scope w t ≡ Some next
         → ReadsTo text scope next rest
     next_place t rest takes next is =
         let ok = subst (IsRight scope r.room w t) is (steps_right scope r.room w r.room_is t) in
@@ -180,7 +180,7 @@ module _ (text : List ℕ) (scope : Scope) where
           ));
         }
 
-    pub stops_at_token : (t : FilterToken) (rest : List ℕ) → Takes cs t rest → step_token scope w t ≡ None
+    pub stops_at_token : (t : FilterToken) (rest : List ℕ) → Takes cs t rest → follow_token scope w t ≡ None
         → StopsAt text scope (token_offset text cs)
     stops_at_token t rest takes is =
         let none = subst (IsRight scope r.room w t) is (steps_right scope r.room w r.room_is t) in

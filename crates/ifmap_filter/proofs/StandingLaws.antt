@@ -14,7 +14,7 @@ use Rattle.ifmap_filter.specs.declared.raw_tokens.RawToken.{RawToken}
 use Rattle.ifmap_filter.specs.declared.raw_tokens.RawToken.TheVariants as raw
 use Rattle.ifmap_filter.specs.Grammar.{depth_limit}
 use Rattle.ifmap_filter.specs.RawTokens.{token_of_raw}
-use Rattle.ifmap_filter.specs.Progress.{Context, FactorDue, context, join_parts, inner_context, inner_place, IsNotSingle, step_done, step_equals, step_factor, step_literal, step_local, step_named, step_test, step_tested, test_of}
+use Rattle.ifmap_filter.specs.Progress.{Context, FactorDue, context, join_parts, inner_context, inner_place, IsNotSingle, follow_done, follow_equals, follow_factor, follow_literal, follow_local, follow_named, follow_test, follow_tested, test_of}
 
 pub depth_limit_is : depth_limit ≡ 64
 unfolding depth_limit
@@ -74,57 +74,57 @@ by_kind P (raw.Name prefix local) on_any on_open on_close on_group on_end on_equ
 by_kind P (raw.Literal value) on_any on_open on_close on_group on_end on_equals on_at on_name on_literal = on_literal value refl
 
 pub test_refused : (scope : Scope) (done : List Test) (m : RawToken) → m ≢ raw.Any → IsNoName m
-    → None ≡ step_test scope done (token_of_raw m)
+    → None ≡ follow_test scope done (token_of_raw m)
 test_refused scope done m no_Any no_Name =
-    by_kind (λ n. None ≡ step_test scope done (token_of_raw n)) m
+    by_kind (λ n. None ≡ follow_test scope done (token_of_raw n)) m
     (λ e. absurd (no_Any e)) (λ e. refl) (λ e. refl) (λ e. refl) (λ e. refl) (λ e. refl) (λ e. refl)
     (λ prefix local e. absurd (no_Name prefix local e)) (λ value e. refl)
 
 pub tested_refused : (done : List Test) (m : RawToken) → IsNoName m
-    → None ≡ step_tested done (token_of_raw m)
+    → None ≡ follow_tested done (token_of_raw m)
 tested_refused done m no_Name =
-    by_kind (λ n. None ≡ step_tested done (token_of_raw n)) m
+    by_kind (λ n. None ≡ follow_tested done (token_of_raw n)) m
     (λ e. refl) (λ e. refl) (λ e. refl) (λ e. refl) (λ e. refl) (λ e. refl) (λ e. refl)
     (λ prefix local e. absurd (no_Name prefix local e)) (λ value e. refl)
 
 pub factor_refused : (scope : Scope) (c : Context) (m : RawToken) → m ≢ raw.OpenParenthesis → m ≢ raw.At → IsNoName m
-    → None ≡ step_factor scope c (token_of_raw m)
+    → None ≡ follow_factor scope c (token_of_raw m)
 factor_refused scope c m no_OpenParenthesis no_At no_Name =
-    by_kind (λ n. None ≡ step_factor scope c (token_of_raw n)) m
+    by_kind (λ n. None ≡ follow_factor scope c (token_of_raw n)) m
     (λ e. refl) (λ e. refl) (λ e. refl) (λ e. absurd (no_OpenParenthesis e)) (λ e. refl) (λ e. refl) (λ e. absurd (no_At e))
     (λ prefix local e. absurd (no_Name prefix local e)) (λ value e. refl)
 
 pub local_refused : (c : Context) (m : RawToken) → IsNoName m
-    → None ≡ step_local c (token_of_raw m)
+    → None ≡ follow_local c (token_of_raw m)
 local_refused c m no_Name =
-    by_kind (λ n. None ≡ step_local c (token_of_raw n)) m
+    by_kind (λ n. None ≡ follow_local c (token_of_raw n)) m
     (λ e. refl) (λ e. refl) (λ e. refl) (λ e. refl) (λ e. refl) (λ e. refl) (λ e. refl)
     (λ prefix local e. absurd (no_Name prefix local e)) (λ value e. refl)
 
 pub equals_refused : (c : Context) (a : Operand) (m : RawToken) → m ≢ raw.EqualsSign
-    → None ≡ step_equals c a (token_of_raw m)
+    → None ≡ follow_equals c a (token_of_raw m)
 equals_refused c a m no_EqualsSign =
-    by_kind (λ n. None ≡ step_equals c a (token_of_raw n)) m
+    by_kind (λ n. None ≡ follow_equals c a (token_of_raw n)) m
     (λ e. refl) (λ e. refl) (λ e. refl) (λ e. refl) (λ e. refl) (λ e. absurd (no_EqualsSign e)) (λ e. refl) (λ prefix local e. refl)
     (λ value e. refl)
 
 pub literal_refused : (c : Context) (a : Operand) (m : RawToken) → IsNoLiteral m
-    → None ≡ step_literal c a (token_of_raw m)
+    → None ≡ follow_literal c a (token_of_raw m)
 literal_refused c a m no_Literal =
-    by_kind (λ n. None ≡ step_literal c a (token_of_raw n)) m
+    by_kind (λ n. None ≡ follow_literal c a (token_of_raw n)) m
     (λ e. refl) (λ e. refl) (λ e. refl) (λ e. refl) (λ e. refl) (λ e. refl) (λ e. refl) (λ prefix local e. refl)
     (λ value e. absurd (no_Literal value e))
 
 pub done_refused : (c : Context) (m : RawToken) → IsNoName m → m ≢ raw.CloseParenthesis → m ≢ raw.CloseBracket
-    → None ≡ step_done c (token_of_raw m)
+    → None ≡ follow_done c (token_of_raw m)
 done_refused c m no_Name no_CloseParenthesis no_CloseBracket =
-    by_kind (λ n. None ≡ step_done c (token_of_raw n)) m
+    by_kind (λ n. None ≡ follow_done c (token_of_raw n)) m
     (λ e. refl) (λ e. refl) (λ e. absurd (no_CloseBracket e)) (λ e. refl) (λ e. absurd (no_CloseParenthesis e)) (λ e. refl)
     (λ e. refl) (λ prefix local e. absurd (no_Name prefix local e)) (λ value e. refl)
 
 pub named_other : (done : List Test) (name : Option element.Name) (m : RawToken) → m ≢ raw.OpenBracket
-    → step_named done name (token_of_raw m) ≡ step_tested (done ++ test_of name None ∷ []) (token_of_raw m)
+    → follow_named done name (token_of_raw m) ≡ follow_tested (done ++ test_of name None ∷ []) (token_of_raw m)
 named_other done name m no_OpenBracket =
-    by_kind (λ n. step_named done name (token_of_raw n) ≡ step_tested (done ++ test_of name None ∷ []) (token_of_raw n)) m
+    by_kind (λ n. follow_named done name (token_of_raw n) ≡ follow_tested (done ++ test_of name None ∷ []) (token_of_raw n)) m
     (λ e. refl) (λ e. absurd (no_OpenBracket e)) (λ e. refl) (λ e. refl) (λ e. refl) (λ e. refl) (λ e. refl) (λ prefix local e. refl)
     (λ value e. refl)

@@ -21,7 +21,7 @@ use Rattle.ifmap_filter.specs.declared.progress.OuterPart.{OuterPart}
 use Rattle.ifmap_filter.specs.declared.progress.Operand.{Operand}
 use Rattle.ifmap_filter.specs.declared.progress.Operand.TheVariants as operand
 use Rattle.ifmap_filter.specs.Grammar.{AsksFor, StandsFor, TakesComparison, TakesFactor, TakesOrPart, TakesOrs, and_word, unprefixed_name, depth_limit, or_word, space_of}
-use Rattle.ifmap_filter.specs.Progress.{ClosesOpenParts, Context, FilterState, Start, TestDue, Named, Tested, FactorDue, LocalDue, EqualsDue, LiteralDue, FactorDone, AfterFactor, EqualsFirst, FactorFirst, IsFilterFrom, LiteralFirst, LocalFirst, MoreFactors, MoreTests, PredicateFirst, TestFirst, asks_named, child_named, close_group, close_test, comparison_of, done_part, inner_context, is_word, name_in, open_parts, next_part, step_token, step_done, step_equals, step_factor, step_literal, step_local, step_named, step_test, step_tested, test_of, with_factor}
+use Rattle.ifmap_filter.specs.Progress.{ClosesOpenParts, Context, FilterState, Start, TestDue, Named, Tested, FactorDue, LocalDue, EqualsDue, LiteralDue, FactorDone, AfterFactor, EqualsFirst, FactorFirst, IsFilterFrom, LiteralFirst, LocalFirst, MoreFactors, MoreTests, PredicateFirst, TestFirst, asks_named, child_named, close_group, close_test, comparison_of, done_part, inner_context, is_word, name_in, open_parts, next_part, follow_token, follow_done, follow_equals, follow_factor, follow_literal, follow_local, follow_named, follow_test, follow_tested, test_of, with_factor}
 use Rattle.ifmap_filter.proofs.Continuing.{Refuses, and_more, any_asks, bare_named, filter_starts, name_asks, name_goes_on, no_name_no_test, none_asks, not_that_word, or_more, or_part, other_more, tested_or, tested_other, word_is}
 
 module _ (scope : Scope) where
@@ -66,7 +66,7 @@ module _ (scope : Scope) where
   no_test : (n : ℕ) (done : List Test) (t : FilterToken) → t ≢ Any → ((q : Qualified) → t ≢ Name q) → IsRight n (TestDue done) t None
   no_test n done t no_any no_name = λ filter more. no_name_no_test scope filter done t (no_asks t no_any no_name) more
 
-  right_test : (n : ℕ) (done : List Test) → n + 0 ≡ depth_limit → (t : FilterToken) → IsRight n (TestDue done) t (step_test scope done t)
+  right_test : (n : ℕ) (done : List Test) → n + 0 ≡ depth_limit → (t : FilterToken) → IsRight n (TestDue done) t (follow_test scope done t)
   right_test n done e Any = (n, e, (λ filter more. name_goes_on scope filter done Any None refl (any_asks scope filter) more))
   right_test n done e (Name q) = test_named n done q e (space_of scope q.prefix) refl
   right_test n done e OpenBracket = no_test n done OpenBracket (λ e. cc) (λ q e. cc)
@@ -88,7 +88,7 @@ module _ (scope : Scope) where
   )
   tested_name n done q e false is = λ filter more. tested_other scope filter done (Name q) (not_that_word (codes "or") q is) more
 
-  right_tested : (n : ℕ) (done : List Test) → n + 0 ≡ depth_limit → (t : FilterToken) → IsRight n (Tested done) t (step_tested done t)
+  right_tested : (n : ℕ) (done : List Test) → n + 0 ≡ depth_limit → (t : FilterToken) → IsRight n (Tested done) t (follow_tested done t)
   right_tested n done e (Name q) = tested_name n done q e (is_word (codes "or") q) refl
   right_tested n done e Any = λ filter more. tested_other scope filter done Any (λ e. cc) more
   right_tested n done e OpenBracket = λ filter more. tested_other scope filter done OpenBracket (λ e. cc) more
@@ -126,14 +126,14 @@ module _ (scope : Scope) where
         )
 
   named_without : (n : ℕ) (done : List Test) (name : Option element.Name) → n + 0 ≡ depth_limit → (t : FilterToken) → t ≢ OpenBracket
-      → IsRight n (Named done name) t (step_tested (done ++ test_of name None ∷ []) t)
+      → IsRight n (Named done name) t (follow_tested (done ++ test_of name None ∷ []) t)
   named_without n done name e t other =
       through n (Named done name) (Tested (done ++ test_of name None ∷ [])) t
       (λ filter more. bare_named scope filter done name t other more)
-      (step_tested (done ++ test_of name None ∷ []) t) (right_tested n (done ++ test_of name None ∷ []) e t)
+      (follow_tested (done ++ test_of name None ∷ []) t) (right_tested n (done ++ test_of name None ∷ []) e t)
 
   right_named : (n : ℕ) (done : List Test) (name : Option element.Name) → n + 0 ≡ depth_limit → (t : FilterToken)
-      → IsRight n (Named done name) t (step_named done name t)
+      → IsRight n (Named done name) t (follow_named done name t)
   right_named n done name e OpenBracket =
       (depth_limit, add-zero depth_limit, (λ filter more. (opens filter done name more, opened filter done name more)))
   right_named n done name e Any = named_without n done name e Any (λ e. cc)
@@ -282,7 +282,7 @@ module _ (scope : Scope) where
   no_room k e = grind (arith, nat_tests)
 
   right_open : (n : ℕ) (c : Context) → n + length c.outer ≡ depth_limit
-      → IsRight n (FactorDue c) OpenParenthesis (step_factor scope c OpenParenthesis)
+      → IsRight n (FactorDue c) OpenParenthesis (follow_factor scope c OpenParenthesis)
   right_open zero c e =
       subst (λ b. IsRight zero (FactorDue c) OpenParenthesis (if b then Some (FactorDue (inner_context c)) else None))
       (sym (no_room (length c.outer) e))
@@ -299,7 +299,7 @@ module _ (scope : Scope) where
       (m, omega (arith, e), (λ filter more. open_inner m c filter more))
 
   right_factor : (n : ℕ) (c : Context) → n + length c.outer ≡ depth_limit → (t : FilterToken)
-      → IsRight n (FactorDue c) t (step_factor scope c t)
+      → IsRight n (FactorDue c) t (follow_factor scope c t)
   right_factor n c e OpenParenthesis = right_open n c e
   right_factor n c e At = (n, e, (λ filter more. (at_local n c filter more, local_at n c filter more)))
   right_factor n c e (Name q) = factor_name n c q e (space_of scope q.prefix) refl
@@ -346,7 +346,7 @@ module _ (scope : Scope) where
   no_local n c t other filter more (local, rest, e, equals) = other (unprefixed_name local) (same_parts t (Name (unprefixed_name local))
       more rest e).0
 
-  right_local : (n : ℕ) (c : Context) → n + length c.outer ≡ depth_limit → (t : FilterToken) → IsRight n (LocalDue c) t (step_local c t)
+  right_local : (n : ℕ) (c : Context) → n + length c.outer ≡ depth_limit → (t : FilterToken) → IsRight n (LocalDue c) t (follow_local c t)
   right_local n c e (Name q) = local_name n c q e (bytes_eq q.prefix []) refl
   right_local n c e Any = no_local n c Any (λ q e. cc)
   right_local n c e OpenBracket = no_local n c OpenBracket (λ q e. cc)
@@ -369,7 +369,7 @@ module _ (scope : Scope) where
   )
 
   right_equals : (n : ℕ) (c : Context) (a : Operand) → n + length c.outer ≡ depth_limit → (t : FilterToken)
-      → IsRight n (EqualsDue c a) t (step_equals c a t)
+      → IsRight n (EqualsDue c a) t (follow_equals c a t)
   right_equals n c a e EqualsSign = (n, e, equals n c a)
   right_equals n c a e Any = no_equals n c a Any (λ e. cc)
   right_equals n c a e OpenBracket = no_equals n c a OpenBracket (λ e. cc)
@@ -398,7 +398,7 @@ module _ (scope : Scope) where
   )
 
   right_literal : (n : ℕ) (c : Context) (a : Operand) → n + length c.outer ≡ depth_limit → (t : FilterToken)
-      → IsRight n (LiteralDue c a) t (step_literal c a t)
+      → IsRight n (LiteralDue c a) t (follow_literal c a t)
   right_literal n c a e (Literal v) = (n, e, literal n c a v)
   right_literal n c a e Any = no_literal n c a Any (λ v e. cc)
   right_literal n c a e OpenBracket = no_literal n c a OpenBracket (λ v e. cc)
@@ -516,7 +516,7 @@ module _ (scope : Scope) where
       no_close filter c.tests c.name n c.outer t no_bracket no_parenthesis (done_part c.ors c.ands) more
       ((closing n c t other filter more).0 after)
 
-  right_done : (n : ℕ) (c : Context) → n + length c.outer ≡ depth_limit → (t : FilterToken) → IsRight n (FactorDone c) t (step_done c t)
+  right_done : (n : ℕ) (c : Context) → n + length c.outer ≡ depth_limit → (t : FilterToken) → IsRight n (FactorDone c) t (follow_done c t)
   right_done n c e (Name q) = after_name n c q e (is_word (codes "and") q) refl
   right_done n c e CloseParenthesis = closes_group n c.tests c.name c.ors c.ands c.outer e
   right_done n c e CloseBracket = closes_test n c.tests c.name c.ors c.ands c.outer e
@@ -529,9 +529,9 @@ module _ (scope : Scope) where
 
   -- (5) all together
 
-  pub steps_right : (n : ℕ) (w : FilterState) → n + open_parts w ≡ depth_limit → (t : FilterToken) → IsRight n w t (step_token scope w t)
+  pub steps_right : (n : ℕ) (w : FilterState) → n + open_parts w ≡ depth_limit → (t : FilterToken) → IsRight n w t (follow_token scope w t)
   steps_right n Start e t =
-      through n Start (TestDue []) t (λ filter more. filter_starts scope filter t more) (step_test scope [] t) (right_test n [] e t)
+      through n Start (TestDue []) t (λ filter more. filter_starts scope filter t more) (follow_test scope [] t) (right_test n [] e t)
   steps_right n (TestDue done) e t = right_test n done e t
   steps_right n (Named done name) e t = right_named n done name e t
   steps_right n (Tested done) e t = right_tested n done e t

@@ -2,8 +2,8 @@
 -- 1. The place (`FilterState`), with the open or-part and what is round it (`Context`), and what the code keeps of both.
 -- 2. What is made of parts that are done: joined parts, a comparison, a test.
 -- 3. How a whole filter goes on from each place, over the tokens that are left (`IsFilterFrom`), and how deep a place is.
--- 4. One more token, place by place (`step_test` to `step_done`), with what opens and closes parentheses and brackets.
--- 5. All together, by the place (`step_token`), and where a filter may end.
+-- 4. One more token, place by place (`follow_test` to `follow_done`), with what opens and closes parentheses and brackets.
+-- 5. All together, by the place (`follow_token`), and where a filter may end.
 use Rattle.std.specs.Prelude.{◌≡◌, ◌&&◌, ℕ, suc, Bool, true, false, if◌then◌else◌, nat_lt, List, [], ◌∷◌, ◌++◌, codes, length, reverse, Option, Some, None}
 use Rattle.std.specs.Str.{bytes_eq}
 use Rattle.ifmap_elem.specs.declared.elements.Name as element
@@ -183,18 +183,18 @@ abbrev pub asks_named : List Test → Option element.Name → Option FilterState
 asks_named done None = None
 asks_named done (Some name) = Some (Named done (Some name))
 
-abbrev pub step_test : Scope → List Test → FilterToken → Option FilterState
-step_test scope done Any = Some (Named done None)
-step_test scope done (Name q) = asks_named done (resolved_name scope q)
-step_test scope done _ = None
+abbrev pub follow_test : Scope → List Test → FilterToken → Option FilterState
+follow_test scope done Any = Some (Named done None)
+follow_test scope done (Name q) = asks_named done (resolved_name scope q)
+follow_test scope done _ = None
 
-abbrev pub step_tested : List Test → FilterToken → Option FilterState
-step_tested done (Name q) = if is_word (codes "or") q then Some (TestDue done) else None
-step_tested done _ = None
+abbrev pub follow_tested : List Test → FilterToken → Option FilterState
+follow_tested done (Name q) = if is_word (codes "or") q then Some (TestDue done) else None
+follow_tested done _ = None
 
-abbrev pub step_named : List Test → Option element.Name → FilterToken → Option FilterState
-step_named done name OpenBracket = Some (FactorDue (record { tests = done; name = name; outer = []; ors = []; ands = [] }))
-step_named done name t = step_tested (done ++ test_of name None ∷ []) t
+abbrev pub follow_named : List Test → Option element.Name → FilterToken → Option FilterState
+follow_named done name OpenBracket = Some (FactorDue (record { tests = done; name = name; outer = []; ors = []; ands = [] }))
+follow_named done name t = follow_tested (done ++ test_of name None ∷ []) t
 
 abbrev pub inner_context : Context → Context
 inner_context c = record c { outer = record { ors = c.ors; ands = c.ands } ∷ c.outer; ors = []; ands = [] }
@@ -206,23 +206,23 @@ abbrev pub child_named : Context → Option element.Name → Option FilterState
 child_named c None = None
 child_named c (Some name) = Some (EqualsDue c (operand.Child name))
 
-abbrev pub step_factor : Scope → Context → FilterToken → Option FilterState
-step_factor scope c OpenParenthesis = inner_place c
-step_factor scope c At = Some (LocalDue c)
-step_factor scope c (Name q) = child_named c (resolved_name scope q)
-step_factor scope c _ = None
+abbrev pub follow_factor : Scope → Context → FilterToken → Option FilterState
+follow_factor scope c OpenParenthesis = inner_place c
+follow_factor scope c At = Some (LocalDue c)
+follow_factor scope c (Name q) = child_named c (resolved_name scope q)
+follow_factor scope c _ = None
 
-abbrev pub step_local : Context → FilterToken → Option FilterState
-step_local c (Name q) = if bytes_eq q.prefix [] then Some (EqualsDue c (operand.Attribute q.local)) else None
-step_local c _ = None
+abbrev pub follow_local : Context → FilterToken → Option FilterState
+follow_local c (Name q) = if bytes_eq q.prefix [] then Some (EqualsDue c (operand.Attribute q.local)) else None
+follow_local c _ = None
 
-abbrev pub step_equals : Context → Operand → FilterToken → Option FilterState
-step_equals c a EqualsSign = Some (LiteralDue c a)
-step_equals c a _ = None
+abbrev pub follow_equals : Context → Operand → FilterToken → Option FilterState
+follow_equals c a EqualsSign = Some (LiteralDue c a)
+follow_equals c a _ = None
 
-abbrev pub step_literal : Context → Operand → FilterToken → Option FilterState
-step_literal c a (Literal value) = Some (FactorDone (with_factor c (comparison_of a value)))
-step_literal c a _ = None
+abbrev pub follow_literal : Context → Operand → FilterToken → Option FilterState
+follow_literal c a (Literal value) = Some (FactorDone (with_factor c (comparison_of a value)))
+follow_literal c a _ = None
 
 -- the next and-part of the or-part
 abbrev pub next_part : Context → Context
@@ -238,26 +238,26 @@ close_test c [] = Some (Tested (c.tests ++ test_of c.name (Some (done_part c.ors
 close_test c (outer_part ∷ outer) = None
 
 -- `and`, or `or`, with which the next and-part begins
-abbrev pub step_joining : Context → Qualified → Option FilterState
-step_joining c q =
+abbrev pub follow_joining : Context → Qualified → Option FilterState
+follow_joining c q =
     if is_word (codes "and") q then Some (FactorDue c) else if is_word (codes "or") q then Some (FactorDue (next_part c)) else None
 
-abbrev pub step_done : Context → FilterToken → Option FilterState
-step_done c (Name q) = step_joining c q
-step_done c CloseParenthesis = close_group c c.outer
-step_done c CloseBracket = close_test c c.outer
-step_done c _ = None
+abbrev pub follow_done : Context → FilterToken → Option FilterState
+follow_done c (Name q) = follow_joining c q
+follow_done c CloseParenthesis = close_group c c.outer
+follow_done c CloseBracket = close_test c c.outer
+follow_done c _ = None
 
-abbrev pub step_token : Scope → FilterState → FilterToken → Option FilterState
-step_token scope Start t = step_test scope [] t
-step_token scope (TestDue done) t = step_test scope done t
-step_token scope (Named done name) t = step_named done name t
-step_token scope (Tested done) t = step_tested done t
-step_token scope (FactorDue c) t = step_factor scope c t
-step_token scope (LocalDue c) t = step_local c t
-step_token scope (EqualsDue c a) t = step_equals c a t
-step_token scope (LiteralDue c a) t = step_literal c a t
-step_token scope (FactorDone c) t = step_done c t
+abbrev pub follow_token : Scope → FilterState → FilterToken → Option FilterState
+follow_token scope Start t = follow_test scope [] t
+follow_token scope (TestDue done) t = follow_test scope done t
+follow_token scope (Named done name) t = follow_named done name t
+follow_token scope (Tested done) t = follow_tested done t
+follow_token scope (FactorDue c) t = follow_factor scope c t
+follow_token scope (LocalDue c) t = follow_local c t
+follow_token scope (EqualsDue c a) t = follow_equals c a t
+follow_token scope (LiteralDue c a) t = follow_literal c a t
+follow_token scope (FactorDone c) t = follow_done c t
 
 -- the filter, where the text may end here
 abbrev pub filter_at : FilterState → Option Filter

@@ -7,7 +7,7 @@ use Rattle.ifmap_filter.specs.declared.errors.FilterError.TheVariants.{NotAFilte
 use Rattle.ifmap_filter.specs.declared.filters.Filter.{Filter}
 use Rattle.ifmap_filter.specs.declared.tokens.FilterToken.{FilterToken}
 use Rattle.ifmap_filter.specs.Grammar.{IsFilter, depth_limit}
-use Rattle.ifmap_filter.specs.Progress.{IsFilterFrom, FilterState, open_parts, step_token, filter_at}
+use Rattle.ifmap_filter.specs.Progress.{IsFilterFrom, FilterState, open_parts, follow_token, filter_at}
 use Rattle.ifmap_filter.specs.Tokens.{Takes, front_token, token_at, without_white}
 
 -- after the tokens before these characters a reader stands there: what is a filter after them is what goes on from there
@@ -30,7 +30,7 @@ pub record StepsOn (scope : Scope) (w : FilterState) (rest : List ℕ) (next : F
   pub token : FilterToken
   pub after : List ℕ
   pub is_there : token_at (chars rest) ≡ Some (front_token token after)
-  pub steps : step_token scope w token ≡ Some next
+  pub steps : follow_token scope w token ≡ Some next
   pub left_is : chars left ≡ without_white after
   pub is_text : IsUtf8 left
 
@@ -38,7 +38,7 @@ pub record StepsOn (scope : Scope) (w : FilterState) (rest : List ℕ) (next : F
 abbrev pub IsStuck : Scope → FilterState → List ℕ → Type 0
 IsStuck scope w rest =
     (token_at (chars rest) ≡ None)
-    ⊎ ((t : FilterToken) × (after : List ℕ) × (token_at (chars rest) ≡ Some (front_token t after)) × (step_token scope w t ≡ None))
+    ⊎ ((t : FilterToken) × (after : List ℕ) × (token_at (chars rest) ≡ Some (front_token t after)) × (follow_token scope w t ≡ None))
 
 abbrev pub IsRefused : Scope → FilterState → List ℕ → ℕ → FilterError → Type 0
 IsRefused scope w rest at (NotAFilter place) = (place ≡ at) × IsStuck scope w rest

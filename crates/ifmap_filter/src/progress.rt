@@ -2,7 +2,7 @@
 ghost use Rattle.std.specs.Prelude.{◌≡◌, ◌++◌, ◌∷◌, [], IfNone, IfOk, IfSome, OnOk};
 ghost use Rattle.ifmap_prefixes.specs.ifmap_lexer.There.{qualified_of};
 ghost use Rattle.ifmap_filter.specs.RawTokens.{token_of_raw};
-ghost use Rattle.ifmap_filter.specs.Progress.{IsNotSingle, StandsAt, Start, comparison_of, context, done_part, join_parts, inner_place, step_token, step_done, step_equals, step_factor, step_joining, step_literal, step_local, step_named, step_test, step_tested, test_of, filter_state, filter_at};
+ghost use Rattle.ifmap_filter.specs.Progress.{IsNotSingle, StandsAt, Start, comparison_of, context, done_part, join_parts, inner_place, follow_token, follow_done, follow_equals, follow_factor, follow_joining, follow_literal, follow_local, follow_named, follow_test, follow_tested, test_of, filter_state, filter_at};
 ghost use Rattle.ifmap_filter.specs.declared.filters.Predicate.{And, Or};
 ghost use Rattle.ifmap_filter.specs.declared.tokens.FilterToken.TheVariants.{CloseBracket, CloseParenthesis};
 
@@ -95,7 +95,7 @@ pub(crate) fn take_token(
     raw: RawToken<'_>,
 ) -> Result<bool, NoMemory>
     ensures { IfOk result (λ allowed. StandsAt allowed standing.new
-        (step_token scope.now (filter_state standing.old) (token_of_raw raw.entry))) }
+        (follow_token scope.now (filter_state standing.old) (token_of_raw raw.entry))) }
 {
     match standing.place {
         FilterPlace::Start => {
@@ -120,7 +120,7 @@ fn take_test(
     raw: RawToken<'_>,
 ) -> Result<bool, NoMemory>
     ensures { IfOk result (λ allowed. StandsAt allowed standing.new
-        (step_test scope.now standing.old.open_part.tests (token_of_raw raw.entry))) }
+        (follow_test scope.now standing.old.open_part.tests (token_of_raw raw.entry))) }
 {
     match raw {
         RawToken::Any => {
@@ -142,7 +142,7 @@ fn take_test(
 
 fn take_named(standing: &mut FilterProgress, raw: RawToken<'_>) -> Result<bool, NoMemory>
     ensures { IfOk result (λ allowed. StandsAt allowed standing.new
-        (step_named standing.old.open_part.tests standing.old.open_part.name
+        (follow_named standing.old.open_part.tests standing.old.open_part.name
         (token_of_raw raw.entry))) }
 {
     match raw {
@@ -172,7 +172,7 @@ fn push_test(open_part: &mut OpenPart, predicate: Option<Predicate>) -> Result<(
 
 fn take_tested(standing: &mut FilterProgress, raw: RawToken<'_>) -> bool
     ensures { StandsAt result standing.new
-        (step_tested standing.old.open_part.tests (token_of_raw raw.entry)) }
+        (follow_tested standing.old.open_part.tests (token_of_raw raw.entry)) }
 {
     match raw {
         RawToken::Name(prefix, local) => {
@@ -193,7 +193,7 @@ fn take_factor(
     raw: RawToken<'_>,
 ) -> Result<bool, NoMemory>
     ensures { IfOk result (λ allowed. StandsAt allowed standing.new
-        (step_factor scope.now (context standing.old.open_part) (token_of_raw raw.entry))) }
+        (follow_factor scope.now (context standing.old.open_part) (token_of_raw raw.entry))) }
 {
     match raw {
         RawToken::OpenParenthesis => open_group(alloc, standing),
@@ -243,7 +243,7 @@ fn take_local(
     raw: RawToken<'_>,
 ) -> Result<bool, NoMemory>
     ensures { IfOk result (λ allowed. StandsAt allowed standing.new
-        (step_local (context standing.old.open_part) (token_of_raw raw.entry))) }
+        (follow_local (context standing.old.open_part) (token_of_raw raw.entry))) }
 {
     match raw {
         RawToken::Name(prefix, local) => {
@@ -261,7 +261,7 @@ fn take_local(
 
 fn take_equals(standing: &mut FilterProgress, raw: RawToken<'_>) -> bool
     ensures { StandsAt result standing.new
-        (step_equals (context standing.old.open_part) standing.old.operand
+        (follow_equals (context standing.old.open_part) standing.old.operand
         (token_of_raw raw.entry)) }
 {
     match raw {
@@ -279,7 +279,7 @@ fn take_literal(
     raw: RawToken<'_>,
 ) -> Result<bool, NoMemory>
     ensures { IfOk result (λ allowed. StandsAt allowed standing.new
-        (step_literal (context standing.old.open_part) standing.old.operand
+        (follow_literal (context standing.old.open_part) standing.old.operand
         (token_of_raw raw.entry))) }
 {
     match raw {
@@ -311,7 +311,7 @@ fn take_done(
     raw: RawToken<'_>,
 ) -> Result<bool, NoMemory>
     ensures { IfOk result (λ allowed. StandsAt allowed standing.new
-        (step_done (context standing.old.open_part) (token_of_raw raw.entry))) }
+        (follow_done (context standing.old.open_part) (token_of_raw raw.entry))) }
 {
     match raw {
         RawToken::Name(prefix, local) => take_joining(alloc, standing, prefix, local),
@@ -329,7 +329,7 @@ fn take_joining(
     local: &str,
 ) -> Result<bool, NoMemory>
     ensures { IfOk result (λ allowed. StandsAt allowed standing.new
-        (step_joining (context standing.old.open_part) (qualified_of prefix.now local.now))) }
+        (follow_joining (context standing.old.open_part) (qualified_of prefix.now local.now))) }
 {
     if is_word("and", prefix, local) {
         standing.place = FilterPlace::FactorDue;
@@ -360,7 +360,7 @@ fn next_part(
 // After a closing parenthesis: not allowed where none is open.
 fn close_group(alloc: Global, standing: &mut FilterProgress) -> Result<bool, NoMemory>
     ensures { IfOk result (λ allowed. StandsAt allowed standing.new
-        (step_done (context standing.old.open_part) CloseParenthesis)) }
+        (follow_done (context standing.old.open_part) CloseParenthesis)) }
 {
     let open_part = &mut standing.open_part;
     let Some(outer_part) = open_part.outer.pop() else {
@@ -378,7 +378,7 @@ fn close_group(alloc: Global, standing: &mut FilterProgress) -> Result<bool, NoM
 // After a closing bracket: not allowed where parentheses are open.
 fn close_test(alloc: Global, standing: &mut FilterProgress) -> Result<bool, NoMemory>
     ensures { IfOk result (λ allowed. StandsAt allowed standing.new
-        (step_done (context standing.old.open_part) CloseBracket)) }
+        (follow_done (context standing.old.open_part) CloseBracket)) }
 {
     if !standing.open_part.outer.0.is_empty() {
         return Ok(false);

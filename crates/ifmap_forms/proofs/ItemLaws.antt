@@ -3,7 +3,7 @@ use Rattle.std.proofs.Common.{◌≡◌, ◌∙◌, ℕ, ◌+◌, Bool, true, fa
 use Rattle.std.specs.List.{position, position_or_len}
 use Rattle.ifmap_elem.specs.declared.elements.Child.{Child, out-Child}
 use Rattle.ifmap_forms.specs.Items.{before_list, from_list, is_list}
-use Rattle.ifmap_forms.specs.PositionLaws.{at_place, no_place, place_is}
+use Rattle.ifmap_lemmas.specs.Positions.{at_place, no_place, place_is}
 use Rattle.ifmap_forms.specs.Tables.{Part, parts_in}
 
 front_step : (t : Bool) (p : Part) (ps : List Part) (n : ℕ) → take n ps ≡ before_list ps

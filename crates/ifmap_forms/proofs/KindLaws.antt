@@ -17,7 +17,7 @@ use Rattle.ifmap_forms.specs.declared.errors.FormError.TheVariants.{Named, NoMem
 use Rattle.ifmap_forms.specs.Answers.{IsCheckRefusal}
 use Rattle.ifmap_forms.specs.Checks.{ok_value}
 use Rattle.ifmap_forms.specs.Gathering.{after_made}
-use Rattle.ifmap_forms.specs.PositionLaws.{at_place, no_place, place_inside, place_is}
+use Rattle.ifmap_lemmas.specs.Positions.{at_place, no_place, place_inside, place_is}
 use Rattle.ifmap_lemmas.specs.Separated.{comma_parts, part_before, part_of_all}
 use Rattle.ifmap_forms.specs.Values.{begins_white, kinds_check, piece_check}
 

@@ -10,7 +10,6 @@ pub mod SingleLaws
 pub mod DoneLaws
 pub mod ListLaws
 pub mod AnswerLaws
-pub mod PositionLaws
 pub mod FormLaws
 pub mod IdentifierLaws
 -- What is passed on to the crates above.

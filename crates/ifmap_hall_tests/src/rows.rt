@@ -3,7 +3,7 @@ ghost use Rattle.std.specs.Prelude.{◌≡◌, ◌+◌, ◌*◌, ◌<◌, ◌≤
 ghost use Rattle.ifmap_hall.specs.Books.{IsBook};
 ghost use Rattle.ifmap_hall.specs.Passes.{IsOf};
 
-use crate::till::{Payment, Till, Told, heavy, light, pay, tell};
+use crate::till::{Payment, Till, Told, heavy_payment, light_payment, pay, tell};
 use ifmap_hall::{
     Asked, Book, Hall, Machine, Pass, carries_itself, carries_through, the_book_lies_in_order,
 };
@@ -23,9 +23,9 @@ fn begins_at(book: &Book<Till>, from: u64, base: u64, bytes: u64, entries: usize
 fn the_oldest_entry_goes_to_the_base(rt: HostRuntime) -> Result<(), Fail> {
     let alloc = rt.alloc();
     let (hall, mut pass) = Hall::begin(alloc, Till { sum: 0 }, Till { sum: 0 }, 1200, 600)?;
-    let first = tell(pay(&rt, alloc, &hall, &mut pass, heavy(5)));
-    let second = tell(pay(&rt, alloc, &hall, &mut pass, heavy(7)));
-    let third = tell(pay(&rt, alloc, &hall, &mut pass, heavy(9)));
+    let first = tell(pay(&rt, alloc, &hall, &mut pass, heavy_payment(5)));
+    let second = tell(pay(&rt, alloc, &hall, &mut pass, heavy_payment(7)));
+    let third = tell(pay(&rt, alloc, &hall, &mut pass, heavy_payment(9)));
     let book = hall.close(&rt, pass);
     let told = [first, second, third] == [Told::Done(0, 0), Told::Done(1, 5), Told::Done(2, 12)];
     let closed = begins_at(&book, 1, 5, 1200, 2) && book.machine.sum == 21 && book.end() == 3;
@@ -37,10 +37,10 @@ fn the_oldest_entry_goes_to_the_base(rt: HostRuntime) -> Result<(), Fail> {
 fn no_entry_goes_while_there_is_room(rt: HostRuntime) -> Result<(), Fail> {
     let alloc = rt.alloc();
     let (hall, mut pass) = Hall::begin(alloc, Till { sum: 0 }, Till { sum: 0 }, 1200, 600)?;
-    let first = tell(pay(&rt, alloc, &hall, &mut pass, light(5)));
-    let second = tell(pay(&rt, alloc, &hall, &mut pass, light(7)));
-    let third = tell(pay(&rt, alloc, &hall, &mut pass, light(9)));
-    let fourth = tell(pay(&rt, alloc, &hall, &mut pass, light(1)));
+    let first = tell(pay(&rt, alloc, &hall, &mut pass, light_payment(5)));
+    let second = tell(pay(&rt, alloc, &hall, &mut pass, light_payment(7)));
+    let third = tell(pay(&rt, alloc, &hall, &mut pass, light_payment(9)));
+    let fourth = tell(pay(&rt, alloc, &hall, &mut pass, light_payment(1)));
     let book = hall.close(&rt, pass);
     let told = [first, second, third, fourth]
         == [
@@ -111,11 +111,11 @@ fn two_passes_ask_one_history(rt: HostRuntime) -> Result<(), Fail> {
     let alloc = rt.alloc();
     let (hall, mut pass) = Hall::begin(alloc, Till { sum: 0 }, Till { sum: 0 }, 6000, 600)?;
     let mut other = hall.split(&mut pass)?;
-    let first = tell(pay(&rt, alloc, &hall, &mut pass, heavy(3)));
-    let second = tell(pay(&rt, alloc, &hall, &mut other, heavy(4)));
-    let third = tell(pay(&rt, alloc, &hall, &mut pass, heavy(5)));
+    let first = tell(pay(&rt, alloc, &hall, &mut pass, heavy_payment(3)));
+    let second = tell(pay(&rt, alloc, &hall, &mut other, heavy_payment(4)));
+    let third = tell(pay(&rt, alloc, &hall, &mut pass, heavy_payment(5)));
     hall.join(&mut pass, other);
-    let fourth = tell(pay(&rt, alloc, &hall, &mut pass, heavy(6)));
+    let fourth = tell(pay(&rt, alloc, &hall, &mut pass, heavy_payment(6)));
     let book = hall.close(&rt, pass);
     let told = [first, second, third, fourth]
         == [

@@ -97,7 +97,7 @@ pub(crate) fn tell(answer: Asked<Payment, u64>) -> Told {
 }
 
 // An amount of the heaviest weight, paid in at once.
-pub(crate) fn heavy(amount: u64) -> Payment {
+pub(crate) fn heavy_payment(amount: u64) -> Payment {
     Payment {
         amount,
         level: 0,
@@ -107,7 +107,7 @@ pub(crate) fn heavy(amount: u64) -> Payment {
 }
 
 // An amount of half that weight, paid in at once.
-pub(crate) fn light(amount: u64) -> Payment {
+pub(crate) fn light_payment(amount: u64) -> Payment {
     Payment {
         amount,
         level: 0,

@@ -41,7 +41,7 @@ use Rattle.ifmap_ident.specs.IdentityNames.{name_form}
 use Rattle.ifmap_ident.specs.Kinds.{identity_type_name}
 use Rattle.ifmap_ident.specs.Parts.{is_solid, value_of}
 use Rattle.ifmap_ident.proofs.FindLaws.{bare_itself}
-use Rattle.ifmap_ident.proofs.PrintedLaws.{arranged_outer, inner, outer}
+use Rattle.ifmap_ident.proofs.PrintedLaws.{arranged_outer, name_inside, device_of}
 use Rattle.ifmap_ident.proofs.ValueLaws.{address_characters, definition_characters, domain_characters, kept_characters, value_characters}
 use Rattle.ifmap_lemmas.specs.Members.{all_both, all_of_test, both_all}
 use Rattle.ifmap_lemmas.specs.Texts.{ascii_encoded, eq_itself, is_ascii}
@@ -79,13 +79,13 @@ one_level : (e : Element) → e.children ≡ [] → nesting e ≤ 2
 one_level e none =
     let is : nesting e ≡ 1 = levels_are e 0 (ap (λ cs. greatest_of (map child_nesting cs)) none) in omega (arith, is)
 
-inner_levels : (name : List ℕ) → nesting (inner name) ≡ 1
-inner_levels name = levels_are (inner name) 0 (ap (λ n. greatest_of (n ∷ [])) (at_child_text ℕ ℕ child_levels element_levels name))
+inner_levels : (name : List ℕ) → nesting (name_inside name) ≡ 1
+inner_levels name = levels_are (name_inside name) 0 (ap (λ n. greatest_of (n ∷ [])) (at_child_text ℕ ℕ child_levels element_levels name))
 
-outer_levels : (name : List ℕ) → nesting (outer name) ≤ 2
+outer_levels : (name : List ℕ) → nesting (device_of name) ≤ 2
 outer_levels name =
-    let is : nesting (outer name) ≡ 2 = levels_are (outer name) 1
-    (ap (λ n. greatest_of (n ∷ [])) (at_child_element ℕ ℕ child_levels element_levels (inner name) ∙ inner_levels name)) in
+    let is : nesting (device_of name) ≡ 2 = levels_are (device_of name) 1
+    (ap (λ n. greatest_of (n ∷ [])) (at_child_element ℕ ℕ child_levels element_levels (name_inside name) ∙ inner_levels name)) in
     omega (arith, is)
 
 pub element_levels_within : (i : Identifier) → nesting (identifier_element i) ≤ 2
@@ -229,10 +229,10 @@ mac_fits value (b ∷ bs) v d =
 
 -- ---- devices
 
-inner_fits : (name : List ℕ) → IsCharacters name → name ≢ [] → IsFit (inner name)
+inner_fits : (name : List ℕ) → IsCharacters name → name ≢ [] → IsFit (name_inside name)
 unfolding is_plain_name
 inner_fits name h some =
-    fit_whole (inner name) (record {
+    fit_whole (name_inside name) (record {
       name = plain_name (codes "name") refl;
       attributes = tt;
       names_differ = tt;
@@ -240,16 +240,17 @@ inner_fits name h some =
           (record { texts = ((some, h), tt); apart = tt; beside = λ any. cc });
     }) (subst (λ (es : List Element). AllByRecursion IsFitAlone (es ++ [])) (sym (elements_text name)) tt)
 
-outer_fits : (name : List ℕ) → IsCharacters name → name ≢ [] → IsFit (outer name)
+outer_fits : (name : List ℕ) → IsCharacters name → name ≢ [] → IsFit (device_of name)
 unfolding is_plain_name
 outer_fits name h some =
-    fit_whole (outer name) (record {
+    fit_whole (device_of name) (record {
       name = plain_name (codes "device") refl;
       attributes = tt;
       names_differ = tt;
-      children = subst AreFitChildren (ap (λ x. x ∷ []) (sym (out_element (inner name))))
+      children = subst AreFitChildren (ap (λ x. x ∷ []) (sym (out_element (name_inside name))))
           (record { texts = (tt, tt); apart = tt; beside = λ any. (tt, tt) });
-    }) (subst (AllByRecursion IsFitAlone) (sym (append-nil (elements_of_child (the.Element (inner name))) ∙ elements_in (inner name)))
+    }) (subst (AllByRecursion IsFitAlone)
+    (sym (append-nil (elements_of_child (the.Element (name_inside name))) ∙ elements_in (name_inside name)))
     (inner_fits name h some))
 
 filter_step : (p : Child → Bool) (c : Child) (cs : List Child) (b : Bool) → p c ≡ b → AllByRecursion IsFitAlone (elements_of_child c)

@@ -130,44 +130,45 @@ identity_printed name kind (o ∷ os) (b ∷ d) =
     (attribute_written other_name (o ∷ os)) (attribute_written (codes "type") (identity_type_name kind)))
 
 -- a name as text in an element in another
-abbrev pub inner : List ℕ → Element
-inner name = bare_element (codes "name") [] (Child.Text name ∷ [])
+abbrev pub name_inside : List ℕ → Element
+name_inside name = bare_element (codes "name") [] (Child.Text name ∷ [])
 
-abbrev pub outer : List ℕ → Element
-outer name = bare_element (codes "device") [] (Child.Element (inner name) ∷ [])
+abbrev pub device_of : List ℕ → Element
+device_of name = bare_element (codes "device") [] (Child.Element (name_inside name) ∷ [])
 
 abbrev Spaces : Type 0
 Spaces = List (List ℕ)
 
-arranged_inner : (name : List ℕ) → arrange (inner name) ≡ inner name
+arranged_inner : (name : List ℕ) → arrange (name_inside name) ≡ name_inside name
 arranged_inner name =
-    at_element Child.Child Element arrange_child_of arrange_element_of (inner name)
+    at_element Child.Child Element arrange_child_of arrange_element_of (name_inside name)
     ∙ ap (λ child. bare_element (codes "name") [] (child ∷ [])) (at_child_text Child.Child Element arrange_child_of arrange_element_of name)
 
-pub arranged_outer : (name : List ℕ) → arrange (outer name) ≡ outer name
+pub arranged_outer : (name : List ℕ) → arrange (device_of name) ≡ device_of name
 arranged_outer name =
-    at_element Child.Child Element arrange_child_of arrange_element_of (outer name)
+    at_element Child.Child Element arrange_child_of arrange_element_of (device_of name)
     ∙ ap (λ child. bare_element (codes "device") [] (child ∷ []))
-    (at_child_element Child.Child Element arrange_child_of arrange_element_of (inner name) ∙ ap Child.Element (arranged_inner name))
+    (at_child_element Child.Child Element arrange_child_of arrange_element_of (name_inside name) ∙ ap Child.Element (arranged_inner name))
 
-inner_spaces : (name : List ℕ) → spaces_of (inner name) ≡ [] ∷ []
+inner_spaces : (name : List ℕ) → spaces_of (name_inside name) ≡ [] ∷ []
 inner_spaces name =
-    at_element Spaces Spaces child_spaces element_spaces (inner name)
+    at_element Spaces Spaces child_spaces element_spaces (name_inside name)
     ∙ ap (λ spaces. [] ∷ (spaces ++ [])) (at_child_text Spaces Spaces child_spaces element_spaces name)
 
-outer_spaces : (name : List ℕ) → namespaces (outer name) ≡ []
+outer_spaces : (name : List ℕ) → namespaces (device_of name) ≡ []
 outer_spaces name =
-    ap declared_among (at_element Spaces Spaces child_spaces element_spaces (outer name)
-    ∙ ap (λ spaces. [] ∷ (spaces ++ [])) (at_child_element Spaces Spaces child_spaces element_spaces (inner name) ∙ inner_spaces name))
+    ap declared_among (at_element Spaces Spaces child_spaces element_spaces (device_of name)
+    ∙ ap (λ spaces. [] ∷ (spaces ++ []))
+    (at_child_element Spaces Spaces child_spaces element_spaces (name_inside name) ∙ inner_spaces name))
 
 abbrev no_prefixes : List (List ℕ × List ℕ)
 no_prefixes = name_prefixes []
 
-inner_bytes : (name : List ℕ) → child_bytes no_prefixes (Child.Element (inner name)) ≡ codes "<name>" ++ ((text_bytes name ++ [])
+inner_bytes : (name : List ℕ) → child_bytes no_prefixes (Child.Element (name_inside name)) ≡ codes "<name>" ++ ((text_bytes name ++ [])
     ++ codes "</name>")
 inner_bytes name =
-    at_child_element (List ℕ) (List ℕ) (child_piece no_prefixes) (element_piece no_prefixes) (inner name)
-    ∙ at_element (List ℕ) (List ℕ) (child_piece no_prefixes) (element_piece no_prefixes) (inner name)
+    at_child_element (List ℕ) (List ℕ) (child_piece no_prefixes) (element_piece no_prefixes) (name_inside name)
+    ∙ at_element (List ℕ) (List ℕ) (child_piece no_prefixes) (element_piece no_prefixes) (name_inside name)
     ∙ ap (λ text. codes "<name>" ++ ((text ++ []) ++ codes "</name>"))
     (at_child_text (List ℕ) (List ℕ) (child_piece no_prefixes) (element_piece no_prefixes) name)
 
@@ -180,7 +181,7 @@ unfolding identifier_bytes
 device_printed name =
     ap (root_bytes []) (arranged_outer name)
     ∙ ap (λ spaces. element_of_parts (name_prefixes spaces) (numbered_prefixes (codes "n") 1 spaces ++ []) (bare_name (codes "device")) []
-    (map (child_bytes (name_prefixes spaces)) (Child.Element (inner name) ∷ []))) (outer_spaces name)
+    (map (child_bytes (name_prefixes spaces)) (Child.Element (name_inside name) ∷ []))) (outer_spaces name)
     ∙ ap (λ child. codes "<device>" ++ ((child ++ []) ++ codes "</device>")) (inner_bytes name)
     ∙ device_end (text_bytes name)
 

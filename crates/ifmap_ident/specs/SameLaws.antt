@@ -14,7 +14,7 @@ use Rattle.std.specs.Cmp.Rules.{comparing}
 use Rattle.std.specs.BTreeMap.{is_at}
 use Rattle.std.specs.List.{AllByRecursion}
 use Rattle.std.proofs.lemmas.Bool.{and_parts}
-use Rattle.ifmap_lemmas.specs.Orderings.{eq_turned}
+use Rattle.ifmap_lemmas.specs.Orderings.{eq_reversed}
 use Rattle.ifmap_ident.specs.Canon.{IsIdentifier}
 
 pub identifier_itself : (a : Identifier) → same_identifier a a ≡ true
@@ -46,7 +46,7 @@ told_as x a b e = items_equiv.symm a b ∙ items_equiv.congr b x a e ∙ items_e
 
 -- the test of a look-up is that of what is stored on an item
 pub ties : (item other : Item) → is_at (item_order item) other ≡ same_item other item
-ties item other = sym (items_tie other item ∙ ap is_eq (items_total.antisymm other item) ∙ eq_turned (item_order item other))
+ties item other = sym (items_tie other item ∙ ap is_eq (items_total.antisymm other item) ∙ eq_reversed (item_order item other))
 
 -- an item below another is not the same
 pub greater_item_differs : (i y : Item) → item_order i y ≡ Less → same_item y i ≡ false

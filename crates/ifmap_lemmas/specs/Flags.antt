@@ -65,13 +65,13 @@ unturned_fails test (flag ∷ flags) (y ∷ xs) zero x e off =
 unturned_fails test (flag ∷ flags) (y ∷ xs) (suc i) x e off = unturned_fails test flags xs i x e off
 
 -- flags stay where more are turned
-pub marks_stay : {X : Type 0} (test : X → Bool) (gone : List Bool) (xs : List X) → length gone ≡ length xs → (i : ℕ)
+pub flags_stay : {X : Type 0} (test : X → Bool) (gone : List Bool) (xs : List X) → length gone ≡ length xs → (i : ℕ)
     → slice_get gone i ≡ Some true → slice_get (map (λ (p : Bool × X). p.0 || test p.1) (zip gone xs)) i ≡ Some true
-marks_stay test [] xs long i e = absurd (none-some true e)
-marks_stay test (g ∷ gone) [] long i e = absurd (omega (arith, long))
-marks_stay test (true ∷ gone) (x ∷ xs) long zero e = refl
-marks_stay test (false ∷ gone) (x ∷ xs) long zero e = let wrong : false ≡ true = same_Some false true e in cc
-marks_stay test (g ∷ gone) (x ∷ xs) long (suc i) e = marks_stay test gone xs (omega (arith, long)) i e
+flags_stay test [] xs long i e = absurd (none-some true e)
+flags_stay test (g ∷ gone) [] long i e = absurd (omega (arith, long))
+flags_stay test (true ∷ gone) (x ∷ xs) long zero e = refl
+flags_stay test (false ∷ gone) (x ∷ xs) long zero e = let wrong : false ≡ true = same_Some false true e in cc
+flags_stay test (g ∷ gone) (x ∷ xs) long (suc i) e = flags_stay test gone xs (omega (arith, long)) i e
 
 -- where flags stay, what has none had none
 pub was_kept : (old new : List Bool) → length new ≡ length old → ((i : ℕ) → slice_get old i ≡ Some true → slice_get new i ≡ Some true)

@@ -18,7 +18,7 @@ use Rattle.std.specs.declared.cmp.Ordering.TheVariants.{Less, Equal, Greater}
 use Rattle.ifmap_lemmas.specs.Filters.{all_at, all_weaker, filter_all}
 use Rattle.ifmap_lemmas.specs.Found.{find_none}
 use Rattle.ifmap_lemmas.specs.Having.{Has, all_has}
-use Rattle.ifmap_lemmas.specs.Orderings.{greater_turned, less_turned}
+use Rattle.ifmap_lemmas.specs.Orderings.{greater_reversed, less_reversed}
 use Rattle.ifmap_lemmas.specs.Rising.{rises_in_order}
 
 -- what holds of each, and of what is put in
@@ -133,7 +133,7 @@ module _ (X K : Type 0) (key : X → K) (C : K → K → Ordering) (o : IsTotalO
       → AllByRecursion (λ z. E (key z) k ≡ false) xs
   those_later_differ x xs k e =
       all_weaker (λ z. on key C x z ≡ Less) (λ z. E (key z) k ≡ false)
-      (λ z l. differs_back (key z) k (less_turned o k (key z) (sym (o.congr (key x) k (key z) e) ∙ l))) xs
+      (λ z l. differs_back (key z) k (less_reversed o k (key z) (sym (o.congr (key x) k (key z) e) ∙ l))) xs
 
   -- one before it is not
   earlier_differs : (x z : X) (k : K) → C (key z) k ≡ Equal → C (key x) (key z) ≡ Less → E (key x) k ≡ false
@@ -191,7 +191,7 @@ module _ (X K : Type 0) (key : X → K) (C : K → K → Ordering) (o : IsTotalO
   inserted [] (suc i) y up le p = (tt, tt)
   inserted (x ∷ xs) zero y up le p = (
     recursion_from_All (λ z. on key C y z ≡ Less) (x ∷ xs) (λ j d h.
-        greater_turned o (key (get_or (x ∷ xs) j d)) (key y) (p.1 j d (omega arith) h)),
+        greater_reversed o (key (get_or (x ∷ xs) j d)) (key y) (p.1 j d (omega arith) h)),
     up,
   )
   inserted (x ∷ xs) (suc i) y up le p = (

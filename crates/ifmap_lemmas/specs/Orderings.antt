@@ -67,17 +67,17 @@ not_equal r e f = let q : Less ≡ Equal = sym e ∙ f in cc
 
 -- ---- the other way round
 
-pub eq_turned : (r : Ordering) → is_eq (ordering_reverse r) ≡ is_eq r
-eq_turned Less = refl
-eq_turned Equal = refl
-eq_turned Greater = refl
+pub eq_reversed : (r : Ordering) → is_eq (ordering_reverse r) ≡ is_eq r
+eq_reversed Less = refl
+eq_reversed Equal = refl
+eq_reversed Greater = refl
 
 module _ {X : Type 0} {order : X → X → Ordering} (total : IsTotalOrder order) where
-  pub less_turned : (x y : X) → order x y ≡ Less → order y x ≡ Greater
-  less_turned x y e = total.antisymm y x ∙ ap ordering_reverse e
+  pub less_reversed : (x y : X) → order x y ≡ Less → order y x ≡ Greater
+  less_reversed x y e = total.antisymm y x ∙ ap ordering_reverse e
 
-  pub greater_turned : (x y : X) → order x y ≡ Greater → order y x ≡ Less
-  greater_turned x y e = total.antisymm y x ∙ ap ordering_reverse e
+  pub greater_reversed : (x y : X) → order x y ≡ Greater → order y x ≡ Less
+  greater_reversed x y e = total.antisymm y x ∙ ap ordering_reverse e
 
   pub not_both : (x y : X) → order x y ≡ Less → order y x ≡ Less → ⊥
-  not_both x y e f = let q : Greater ≡ Less = sym (less_turned x y e) ∙ f in cc
+  not_both x y e f = let q : Greater ≡ Less = sym (less_reversed x y e) ∙ f in cc

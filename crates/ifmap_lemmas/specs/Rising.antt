@@ -17,7 +17,7 @@ use Rattle.std.specs.declared.cmp.Ordering.TheVariants.{Less, Equal, Greater}
 use Rattle.ifmap_lemmas.specs.Filters.{all_around, all_at, all_weaker, filter_all}
 use Rattle.ifmap_lemmas.specs.Having.{Has, all_has, any_has, has_any}
 use Rattle.ifmap_lemmas.specs.Members.{all_last, both_all}
-use Rattle.ifmap_lemmas.specs.Orderings.{less_turned, not_both, not_equal}
+use Rattle.ifmap_lemmas.specs.Orderings.{less_reversed, not_both, not_equal}
 use Rattle.ifmap_lemmas.specs.Pairwise.{Pairwise}
 
 module _ {X : Type 0} (C : X → X → Ordering) where
@@ -88,7 +88,7 @@ module _ {X : Type 0} (C : X → X → Ordering) (o : IsTotalOrder C) where
       → is_lt (C (get_or xs (suc j) d) (get_or xs j d)) ≡ false
   unfolding IsStrictlySortedBy
   next_not_less [] up j d lt = absurd (omega arith)
-  next_not_less (x ∷ xs) up zero d lt = ap is_lt (less_turned o x (get_or xs 0 d) (all_at (λ z. C x z ≡ Less) xs 0 d up.0 (omega arith)))
+  next_not_less (x ∷ xs) up zero d lt = ap is_lt (less_reversed o x (get_or xs 0 d) (all_at (λ z. C x z ≡ Less) xs 0 d up.0 (omega arith)))
   next_not_less (x ∷ xs) up (suc j) d lt = next_not_less xs up.1 j d (omega arith)
 
   -- a list that rises is in order
@@ -142,7 +142,7 @@ module _ {X : Type 0} (C : X → X → Ordering) (o : IsTotalOrder C) where
   later_untied : (e x : X) (xs : List X) → C x e ≡ Equal → AllByRecursion (λ y. C x y ≡ Less) xs
       → AllByRecursion (λ y. not (is_eq (C y e)) ≡ true) xs
   later_untied e x xs is up = all_weaker (λ y. C x y ≡ Less) (λ y. not (is_eq (C y e)) ≡ true)
-      (λ y l. ap (λ r. not (is_eq r)) (less_turned o e y (sym (o.congr x e y is) ∙ l))) xs up
+      (λ y l. ap (λ r. not (is_eq r)) (less_reversed o e y (sym (o.congr x e y is) ∙ l))) xs up
 
   -- the list without a member that ties is what does not tie
   pub remove_tied : (e : X) (xs : List X) (i : ℕ) → IsStrictlySortedBy C xs → i < length xs → ((d : X) → C (get_or xs i d) e ≡ Equal)

@@ -10,12 +10,12 @@ use Rattle.ifmap_meta.specs.Cardinality.{is_single}
 use Rattle.ifmap_meta.specs.Stamps.{without_stamps}
 
 -- what stands after each text: the first number that is no byte
-abbrev pub end_mark : ℕ
-end_mark = 256
+abbrev pub text_end : ℕ
+text_end = 256
 
 -- a text and its end
 abbrev pub end_part : List ℕ → List ℕ
-end_part text = text ++ end_mark ∷ []
+end_part text = text ++ text_end ∷ []
 
 abbrev pub name_parts : Name → List ℕ
 name_parts n = end_part n.space ++ end_part n.local

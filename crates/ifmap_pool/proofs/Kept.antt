@@ -13,7 +13,7 @@ use Rattle.std.specs.List.{insert, remove}
 use Rattle.std.specs.Cmp.{IsTotalOrder}
 use Rattle.std.specs.declared.cmp.Ordering.TheVariants.{Equal}
 use Rattle.ifmap_lemmas.specs.Options.{is_some_of, some_is}
-use Rattle.ifmap_lemmas.specs.Orderings.{greater_turned}
+use Rattle.ifmap_lemmas.specs.Orderings.{greater_reversed}
 use Rattle.ifmap_pool.specs.Index.{AllBelow, AllAbove, IsKeyPlace, IsKeyIndex}
 use Rattle.ifmap_pool.specs.declared.slots.HeldKey.{HeldKey}
 
@@ -188,7 +188,7 @@ module _ {K : Type 0} {cmp : K → K → Ordering} (total : IsTotalOrder cmp) wh
               | inr here ↦ elim (source j (omega (arith, length-insert order place number within))) [
                 | inl old_j ↦
                     let one : value ≡ a = same_Some _ _ (sym is ∙ sym (ap new here.1) ∙ at_i) in
-                    sym (ap (λ (h : HeldKey K). cmp h.key b.key) one) ∙ greater_turned total _ _ (above old_j.from b (omega arith)
+                    sym (ap (λ (h : HeldKey K). cmp h.key b.key) one) ∙ greater_reversed total _ _ (above old_j.from b (omega arith)
                     old_j.within (was_at j b old_j at_j))
                 | inr also ↦ absurd (omega arith)
               ]

@@ -4,7 +4,7 @@ use Rattle.std.proofs.lemmas.Bool.{cases_eq}
 use Rattle.std.proofs.lemmas.Option.{same_Some}
 use Rattle.std.specs.Cmp.{IsTotalOrder}
 use Rattle.std.specs.declared.cmp.Ordering.TheVariants.{Less, Greater}
-use Rattle.ifmap_lemmas.specs.Orderings.{greater_turned, less_turned}
+use Rattle.ifmap_lemmas.specs.Orderings.{greater_reversed, less_reversed}
 use Rattle.ifmap_pool.specs.Index.{AllBelow, AllAbove, IsKeyIndex}
 use Rattle.ifmap_pool.specs.declared.slots.HeldKey.{HeldKey}
 
@@ -30,6 +30,6 @@ module _ {K : Type 0} {cmp : K → K → Ordering} (total : IsTotalOrder cmp) wh
                 let one : held ≡ found = same_Some _ _ (sym at_k ∙ ap (λ i. slot (get_or order i 0)) same ∙ is) in
                 ap (λ h. cmp h.key key) one ∙ greater
             | inr differs ↦
-                less_turned total key held.key (total.trans _ _ _ (greater_turned total _ _ greater) (indexed.rising middle k found held
+                less_reversed total key held.key (total.trans _ _ _ (greater_reversed total _ _ greater) (indexed.rising middle k found held
                 (omega arith) within is at_k))
           ]

@@ -19,7 +19,7 @@ use Rattle.ifmap_ident.specs.Items.{IsCanonItem, item_order, same_item, items_ti
 use Rattle.ifmap_lemmas.specs.Filters.{all_filter, all_weaker}
 use Rattle.ifmap_lemmas.specs.Having.{Has, filter_has}
 use Rattle.ifmap_lemmas.specs.Numbers.{equal_numbers}
-use Rattle.ifmap_lemmas.specs.Orderings.{less_turned}
+use Rattle.ifmap_lemmas.specs.Orderings.{less_reversed}
 use Rattle.ifmap_meta.specs.declared.stored.Stored.{Stored}
 use Rattle.ifmap_meta.specs.Whole.{IsWhole}
 use Rattle.ifmap_rows.specs.ifmap_plans.declared.plans.ItemChange.{ItemChange}
@@ -72,7 +72,7 @@ found_later : (e : Entry) (es ys : List Entry) → AllOver e.0 ys
     → AllByRecursion (λ y. lookup (is_at (item_order y.0)) (e ∷ es) ≡ Some y.1) ys
 found_later e es [] over all = tt
 found_later e es (y ∷ ys) over all = (
-  ap (λ o. cond (is_eq o) (Some e.1) (lookup (is_at (item_order y.0)) es)) (less_turned items_total e.0 y.0 over.0)
+  ap (λ o. cond (is_eq o) (Some e.1) (lookup (is_at (item_order y.0)) es)) (less_reversed items_total e.0 y.0 over.0)
       ∙ all.0,
   found_later e es ys over.1 all.1,
 )

@@ -7,7 +7,7 @@ use Rattle.std.specs.Ordering.{eq_by_cmp, is_eq, ordering_reverse}
 use Rattle.std.specs.declared.cmp.Ordering.{Ordering}
 use Rattle.std.specs.declared.cmp.Ordering.TheVariants.{Less, Equal, Greater}
 use Rattle.ifmap_lemmas.specs.Filters.{all_filter, all_weaker, filter_alike, filter_all}
-use Rattle.ifmap_lemmas.specs.Orderings.{less_turned}
+use Rattle.ifmap_lemmas.specs.Orderings.{less_reversed}
 use Rattle.ifmap_meta.specs.declared.stored.Stored.{Stored}
 use Rattle.ifmap_meta.specs.Whole.{IsWhole}
 use Rattle.ifmap_rows.specs.ifmap_plans.Lists.{stored_difference, next_on, put_each, same_stored, list_without}
@@ -27,7 +27,7 @@ unfolding IsStrictlySortedBy
 sorted_first s xs up = up
 
 pub less_is_greater : (a b : Stored) → stored_order a b ≡ Less → stored_order b a ≡ Greater
-less_is_greater a b e = less_turned stored_total a b e
+less_is_greater a b e = less_reversed stored_total a b e
 
 pub above_above : (a b : Stored) (xs : List Stored) → stored_order a b ≡ Less → AllAbove b xs → AllAbove a xs
 above_above a b xs e all = all_weaker (λ y. stored_order b y ≡ Less) (λ y. stored_order a y ≡ Less)

@@ -10,7 +10,7 @@ use Rattle.std.specs.List.Sorted.{IsStrictlySortedBy}
 use Rattle.std.specs.Ordering.{is_lt, ordering_reverse}
 use Rattle.std.specs.declared.cmp.Ordering.{Ordering}
 use Rattle.std.specs.declared.cmp.Ordering.TheVariants.{Less, Equal, Greater}
-use Rattle.ifmap_lemmas.specs.Orderings.{greater_turned, less_turned}
+use Rattle.ifmap_lemmas.specs.Orderings.{greater_reversed, less_reversed}
 use Rattle.ifmap_meta.specs.declared.stored.Stored.{Stored}
 use Rattle.ifmap_rows.specs.ifmap_plans.Lists.{same_stored}
 use Rattle.ifmap_rows.specs.ifmap_plans.laws.KeyLaws.{stored_total}
@@ -29,7 +29,7 @@ below_from first row s e from = by (stored_order s row) refl from
     by : (o : Ordering) → stored_order s row ≡ o → is_lt o ≡ false → stored_order first s ≡ Less
     by Less is f = let q : true ≡ false = f in cc
     by Equal is f = alike_right stored_total s row first is ∙ e
-    by Greater is f = stored_total.trans first row s e (greater_turned stored_total s row is)
+    by Greater is f = stored_total.trans first row s e (greater_reversed stored_total s row is)
 
 pub itself_from : (row : Stored) → IsFrom row row
 itself_from row = ap is_lt (tied_itself stored_total row)
@@ -42,7 +42,7 @@ pub passes_first : (row : Stored) (rest after rows : List Stored) → IsStrictly
 passes_first row rest after rows up (first, is, e) same = (
   (sorted_first first after (subst (IsStrictlySortedBy stored_order) is up)).1,
   λ s from. sym (ap (λ b. b || list_any (same_stored s) after)
-      (greater_differs s first (less_turned stored_total first s (below_from first row s e from))))
+      (greater_differs s first (less_reversed stored_total first s (below_from first row s e from))))
       ∙ sym (ap (list_any (same_stored s)) is) ∙ same s from,
 )
 
@@ -59,7 +59,7 @@ first_tells row first after rows is up from =
     by : (o : Ordering) → stored_order first row ≡ o → is_lt o ≡ false → AllAbove first after → AllAbove row after
     by Less e f all = let q : true ≡ false = f in cc
     by Equal e f all = above_tied row first after (stored_total.antisymm row first ∙ ap ordering_reverse e) all
-    by Greater e f all = above_above row first after (greater_turned stored_total first row e) all
+    by Greater e f all = above_above row first after (greater_reversed stored_total first row e) all
 
 pub none_first : (row : Stored) (rows : List Stored) → length rows ≡ 0 → false ≡ list_any (same_stored row) rows
 none_first row [] e = refl
@@ -118,6 +118,6 @@ module _ (one other rest next : List Stored) (i : ℕ) (row : Stored) (up : IsSt
           → AllByRecursion (λ s. list_any (same_stored s) next ≡ list_any (same_stored s) other) ys
       walk [] over h = tt
       walk (y ∷ ys) over h = (
-        stays y (ap is_lt (less_turned stored_total row y over.0)) ∙ h.0,
+        stays y (ap is_lt (less_reversed stored_total row y over.0)) ∙ h.0,
         walk ys over.1 h.1,
       )

@@ -19,7 +19,7 @@ use Rattle.std.specs.Ordering.{is_eq, is_lt}
 use Rattle.std.proofs.lemmas.Cmp.{alike_right}
 use Rattle.std.proofs.lemmas.Map.Views.{any-filter_same}
 use Rattle.ifmap_lemmas.specs.Filtered.{filter_le}
-use Rattle.ifmap_lemmas.specs.Orderings.{greater_turned, is_less, not_both}
+use Rattle.ifmap_lemmas.specs.Orderings.{greater_reversed, is_less, not_both}
 use Rattle.std.specs.Str.{bytes_eq}
 use Rattle.std.specs.declared.cmp.Ordering.{Ordering}
 use Rattle.std.specs.declared.cmp.Ordering.TheVariants.{Less, Equal, Greater}
@@ -110,7 +110,7 @@ below_next (Some a) j k not up = by (item_order a j) refl
     by : (o : Ordering) → item_order a j ≡ o → item_order j k ≡ Less
     by Less e = absurd (not e)
     by Equal e = sym (items_total.congr a j k e) ∙ up
-    by Greater e = items_total.trans j a k (greater_turned items_total a j e) up
+    by Greater e = items_total.trans j a k (greater_reversed items_total a j e) up
 
 -- the items so far
 pub record IsSoFar (who : Who) (rows : List Attachment) (changes : List ItemChange) (last : Option Item) (before steps : ℕ) : Type 0 where
@@ -168,7 +168,7 @@ so_far_next who rows changes more last before steps after k so next canon one is
         let same : same_item x k ≡ true = items_equiv.symm x k ∙ items_tie k x ∙ ap is_eq e in
         ap (λ b. list_any (same_item x) so.keys || (b || false)) same ∙ or_right (list_any (same_item x) so.keys) true refl
     at x full under Greater e = elim (above_or_not last x) [
-      | inl over ↦ absurd (next.least x over full (greater_turned items_total k x e))
+      | inl over ↦ absurd (next.least x over full (greater_reversed items_total k x e))
       | inr least ↦ ap (λ b. b || list_any (same_item x) (k ∷ [])) (so.holds_all x full least)
     ]
 

@@ -19,7 +19,7 @@ use Rattle.ifmap_lemmas.specs.Filtered.{filter_agrees, filter_turned}
 use Rattle.ifmap_lemmas.specs.Filters.{all_filter, all_weaker, filter_all, filter_none, filter_twice}
 use Rattle.ifmap_lemmas.specs.Having.{Has, all_has, any_has, filter_has, has_any, has_filter}
 use Rattle.ifmap_lemmas.specs.Inserted.{one_of_key}
-use Rattle.ifmap_lemmas.specs.Orderings.{greater_turned, is_greater, less_differs}
+use Rattle.ifmap_lemmas.specs.Orderings.{greater_reversed, is_greater, less_differs}
 use Rattle.ifmap_lemmas.specs.Rising.{tied_same}
 use Rattle.ifmap_meta.specs.declared.stored.Stored.{Stored}
 use Rattle.ifmap_meta.specs.Keys.{same_key}
@@ -150,7 +150,7 @@ parts_join row [] up apart = refl
 parts_join row (x ∷ xs) up apart = by (stored_order x row) refl (parts_join row xs (sorted_first x xs up).1 apart.1)
   where
     greater : stored_order x row ≡ Greater → (y : Stored) → stored_order x y ≡ Less → stored_order y row ≡ Greater
-    greater e y l = less_is_greater row y (stored_total.trans row x y (greater_turned stored_total x row e) l)
+    greater e y l = less_is_greater row y (stored_total.trans row x y (greater_reversed stored_total x row e) l)
 
     above : stored_order x row ≡ Greater → AllByRecursion (λ y. stored_order y row ≡ Greater) xs
     above e = all_weaker (λ y. stored_order x y ≡ Less) (λ y. stored_order y row ≡ Greater) (λ y l. greater e y l) xs

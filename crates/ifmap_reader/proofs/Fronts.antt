@@ -59,9 +59,9 @@ module _ (bytes : List ℕ) where
       beyond [] e l = among [] (sym (e ∙ append-nil s.tokens))
       beyond (u ∷ us) e l = s.no_further u l.0 l.1 (begins_front s.tokens u us (subst BeginsDocument e d.allowed))
 
-  pub unreadable : (depth at : ℕ) (s : Stop bytes at) → Shallow depth s.tokens → ((r : Reading) → Spells bytes r → ⊥)
+  pub is_unreadable_at : (depth at : ℕ) (s : Stop bytes at) → Shallow depth s.tokens → ((r : Reading) → Spells bytes r → ⊥)
       → IsUnreadable bytes depth at
-  unreadable depth at s shallow none = record { none = none; stop = s; shallow = λ place d. not_deep depth at place s shallow d }
+  is_unreadable_at depth at s shallow none = record { none = none; stop = s; shallow = λ place d. not_deep depth at place s shallow d }
 
   stops_here : (a b : ℕ) (s : Stop bytes a) (t : Stop bytes b) → GoOn s.tokens s.rest t.tokens t.rest → a ≡ b
   stops_here a b s t h = by h.0 h.1 h.2

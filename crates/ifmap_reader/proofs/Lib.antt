@@ -19,5 +19,5 @@ pub mod NextTokens
 pub mod Progressing
 pub mod ScopeLaws
 pub mod Stepping
-pub mod TurnedLaws
+pub mod ReversedLaws
 pub mod Ways

@@ -28,7 +28,7 @@ use Rattle.ifmap_reader.specs.Reads.{IsUnreadable, IsTooDeep, IsRead, refusal_er
 use Rattle.ifmap_reader.proofs.Goings.{no_tokens, no_tokens_start, after_root_ends, some_tokens}
 use Rattle.ifmap_reader.proofs.Levels.{goes_deep}
 use Rattle.ifmap_reader.proofs.Ways.{some_way}
-use Rattle.ifmap_reader.proofs.Fronts.{Shallow, not_deep, unreadable}
+use Rattle.ifmap_reader.proofs.Fronts.{Shallow, not_deep, is_unreadable_at}
 
 -- where a reader is: the tokens so far, what they make of any document, and what any spelling goes on with
 pub record At (bytes : List ℕ) (depth : ℕ) (w : Where) (rest : List ℕ) : Type 0 where
@@ -128,7 +128,7 @@ module _ (bytes : List ℕ) (depth : ℕ) (w : Where) (rest : List ℕ) (at : At
     pub step_refused : (place : ℕ) → place ≡ offset bytes rest → ((ts : List Token) (r : Reading)
         → IsDocumentFrom w (t ∷ ts) r → ⊥) → IsUnreadable bytes depth place
     step_refused place is refused =
-        unreadable bytes depth place
+        is_unreadable_at bytes depth place
         (record {
           tokens = at.so_far;
           rest = rest;
@@ -177,7 +177,7 @@ module _ (bytes : List ℕ) (depth : ℕ) (w : Where) (rest : List ℕ) (at : At
   pub not_lexed : rest ≢ [] → ((t : Token) (after : List ℕ) → TakesToken rest t after → ⊥) → (place : ℕ) → place ≡ offset bytes rest
       → IsUnreadable bytes depth place
   not_lexed some none place is =
-      unreadable bytes depth place
+      is_unreadable_at bytes depth place
       (record {
         tokens = at.so_far;
         rest = rest;
@@ -213,7 +213,7 @@ module _ (bytes : List ℕ) (depth : ℕ) (w : Where) (rest : List ℕ) (at : At
 
     pub ended_early : ((r : Reading) → IsDocumentFrom w [] r → ⊥) → (place : ℕ) → place ≡ offset bytes rest
         → IsUnreadable bytes depth place
-    ended_early none place is = unreadable bytes depth place (stopped place is) at.shallow (λ r s. none r (spelled_so_far r s))
+    ended_early none place is = is_unreadable_at bytes depth place (stopped place is) at.shallow (λ r s. none r (spelled_so_far r s))
 
     pub none_deep : (end_at place : ℕ) → end_at ≡ offset bytes rest → Deep bytes depth place → ⊥
     none_deep end_at place is d = not_deep bytes depth end_at place (stopped end_at is) at.shallow d

@@ -1,6 +1,6 @@
 pub mod Depths
 pub mod Indexes
-pub mod TurnedPaths
+pub mod ReversedPaths
 pub mod ListedScopes
 pub mod OpenElements
 pub mod AllowedTags

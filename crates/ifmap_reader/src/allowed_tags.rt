@@ -5,7 +5,7 @@ ghost use Rattle.ifmap_reader.specs.OpenElements.{AreLinked, CountsBindings};
 ghost use Rattle.ifmap_reader.specs.AllowedTags.{AnswersAttributes, AnswersAttribute, TagAnswer, plain_part, scope_inside};
 
 use crate::bindings::{Bindings, XML, bindings_of, bound_prefix};
-use crate::declarations::TurnedDeclarations;
+use crate::declarations::ReversedDeclarations;
 use crate::differing::have_other_names;
 use crate::errors::TokenRefusal;
 use crate::open_elements::OpenElement;
@@ -44,7 +44,7 @@ pub(crate) fn open_element(
         declaring,
         children: Many(Vec::new(alloc)),
         text: Text(String::new(alloc)),
-        below: TurnedDeclarations::new(alloc),
+        below: ReversedDeclarations::new(alloc),
     })
 }
 

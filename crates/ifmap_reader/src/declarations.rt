@@ -2,7 +2,7 @@
 ghost use Rattle.std.specs.Prelude.{◌≡◌, [], ◌++◌, map, IfOk, OnOk};
 ghost use Rattle.std.specs.Bool.{OnTrue};
 ghost use Rattle.ifmap_elem.specs.Document.{declared_here, from_above};
-ghost use Rattle.ifmap_reader.specs.TurnedPaths.{lengthen, turn_path};
+ghost use Rattle.ifmap_reader.specs.ReversedPaths.{lengthen, reverse_path};
 
 use crate::bindings::Bindings;
 use ifmap_elem::{Declared, Many};
@@ -13,28 +13,28 @@ use std::marker::Model;
 // that ends, an index comes in front of all these paths. So the paths lie turned, and what comes in
 // front of all of them is kept once, until they come together with others.
 #[derive(Drop)]
-pub(crate) struct TurnedDeclarations {
+pub(crate) struct ReversedDeclarations {
     // Each path begins with its last index.
     rows: Vec<Declared>,
     // What each of these paths goes on with.
     above: Vec<u32>,
 }
 
-impl Model for TurnedDeclarations {
+impl Model for ReversedDeclarations {
     ghost use Rattle.std.specs.Prelude.{List, map};
     ghost use Rattle.ifmap_elem.specs.declared.readings.Declared.{Declared};
-    ghost use Rattle.ifmap_reader.specs.TurnedPaths.{turn_path};
+    ghost use Rattle.ifmap_reader.specs.ReversedPaths.{reverse_path};
 
     ghost Value = { List Declared };
 
-    ghost view = { λ d. map (turn_path d.above.items) d.rows.items };
+    ghost view = { λ d. map (reverse_path d.above.items) d.rows.items };
 }
 
-impl TurnedDeclarations {
-    pub(crate) fn new(alloc: Global) -> TurnedDeclarations
+impl ReversedDeclarations {
+    pub(crate) fn new(alloc: Global) -> ReversedDeclarations
         ensures { result ≡ [] }
     {
-        TurnedDeclarations {
+        ReversedDeclarations {
             rows: Vec::new(alloc),
             above: Vec::new(alloc),
         }
@@ -47,21 +47,21 @@ impl TurnedDeclarations {
     }
 
     // As the parent sees them.
-    pub(crate) fn raise(self, index: usize) -> Result<TurnedDeclarations, NoMemory>
+    pub(crate) fn raise(self, index: usize) -> Result<ReversedDeclarations, NoMemory>
         ensures { IfOk result (λ made. made ≡ map (from_above index) self) }
     {
-        let TurnedDeclarations { rows, mut above } = self;
+        let ReversedDeclarations { rows, mut above } = self;
         let step = step_of(index)?;
         above.push(step)?;
-        Ok(TurnedDeclarations { rows, above })
+        Ok(ReversedDeclarations { rows, above })
     }
 
     // With others after them.
     pub(crate) fn with_more(
         self,
         alloc: Global,
-        more: TurnedDeclarations,
-    ) -> Result<TurnedDeclarations, NoMemory>
+        more: ReversedDeclarations,
+    ) -> Result<ReversedDeclarations, NoMemory>
         ensures { IfOk result (λ made. made ≡ self ++ more) }
     {
         if self.is_empty() {
@@ -78,7 +78,7 @@ impl TurnedDeclarations {
         self,
         alloc: Global,
         own: Bindings,
-    ) -> Result<TurnedDeclarations, NoMemory>
+    ) -> Result<ReversedDeclarations, NoMemory>
         ensures { IfOk result (λ made. made ≡ declared_here own ++ self) }
     {
         if own.is_empty() {
@@ -91,9 +91,9 @@ impl TurnedDeclarations {
 
     // The rows with whole paths, which lie turned.
     fn into_rows(self, alloc: Global) -> Result<Vec<Declared>, NoMemory>
-        ensures { IfOk result (λ rows. map (turn_path []) rows.items ≡ self) }
+        ensures { IfOk result (λ rows. map (reverse_path []) rows.items ≡ self) }
     {
-        let TurnedDeclarations { rows, above } = self;
+        let ReversedDeclarations { rows, above } = self;
         if above.is_empty() {
             return Ok(rows);
         }
@@ -106,10 +106,10 @@ impl TurnedDeclarations {
     pub(crate) fn into_declared(self, alloc: Global) -> Result<Many<Declared>, NoMemory>
         ensures { IfOk result (λ declared. declared ≡ self) }
     {
-        let TurnedDeclarations { rows, above } = self;
+        let ReversedDeclarations { rows, above } = self;
         let mut made = Vec::with_capacity(alloc, rows.len())?;
         for row in rows {
-            made.push(turn_path(row, &above)?)?;
+            made.push(reverse_path(row, &above)?)?;
         }
         Ok(Many(made))
     }
@@ -129,18 +129,18 @@ fn step_of(index: usize) -> Result<u32, NoMemory>
 fn join_rows(
     alloc: Global,
     rows: Vec<Declared>,
-    more: TurnedDeclarations,
-) -> Result<TurnedDeclarations, NoMemory>
-    ensures { IfOk result (λ made. made ≡ map (turn_path []) rows.items ++ more) }
+    more: ReversedDeclarations,
+) -> Result<ReversedDeclarations, NoMemory>
+    ensures { IfOk result (λ made. made ≡ map (reverse_path []) rows.items ++ more) }
 {
-    let TurnedDeclarations {
+    let ReversedDeclarations {
         rows: others,
         above,
     } = more;
     let mut rows = rows;
     push_rows(&mut rows, others, &above)?;
     let above = Vec::new(alloc);
-    Ok(TurnedDeclarations { rows, above })
+    Ok(ReversedDeclarations { rows, above })
 }
 
 // Puts more rows after the others, each with these indexes at the end of its path.
@@ -173,8 +173,8 @@ fn lengthen(row: Declared, above: &[u32]) -> Result<Declared, NoMemory>
 }
 
 // A row with its whole path, the last index last.
-fn turn_path(row: Declared, above: &[u32]) -> Result<Declared, NoMemory>
-    ensures { IfOk result (λ made. made ≡ turn_path above.now row) }
+fn reverse_path(row: Declared, above: &[u32]) -> Result<Declared, NoMemory>
+    ensures { IfOk result (λ made. made ≡ reverse_path above.now row) }
 {
     let Declared {
         path,

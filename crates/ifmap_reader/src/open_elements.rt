@@ -4,7 +4,7 @@ ghost use Rattle.ifmap_elem.specs.Document.{from_above};
 ghost use Rattle.ifmap_reader.specs.OpenElements.{Closes, is_child_text, text_child, with_inner, with_characters, written_name};
 
 use crate::bindings::Bindings;
-use crate::declarations::TurnedDeclarations;
+use crate::declarations::ReversedDeclarations;
 use ifmap_elem::tokens::Qualified;
 use ifmap_elem::white_space::is_white_alone;
 use ifmap_elem::{Attribute, Child, Element, Equals, Many, Name, Text};
@@ -27,7 +27,7 @@ pub(crate) struct OpenElement {
     // The text after these.
     pub text: Text,
     // The declarations in the children, with their paths from this element on.
-    pub below: TurnedDeclarations,
+    pub below: ReversedDeclarations,
 }
 
 impl OpenElement {
@@ -51,19 +51,20 @@ impl OpenElement {
         &mut self,
         alloc: Global,
         element: Element,
-        declared: TurnedDeclarations,
+        declared: ReversedDeclarations,
     ) -> Result<(), NoMemory>
         ensures { OnOk result (self.new ≡ with_inner self.old element declared) }
     {
         let text = mem::replace(&mut self.text, Text::new(alloc));
-        add_text(&mut self.children, true, text)?;
+        let beside = true;
+        add_text(&mut self.children, beside, text)?;
         add_below(alloc, &mut self.below, self.children.len(), declared)?;
         add_child(&mut self.children, Child::Element(element))
     }
 
     // The element, at its end, and the declarations in it.
     #[inline(always)]
-    pub(crate) fn close(self, alloc: Global) -> Result<(Element, TurnedDeclarations), NoMemory>
+    pub(crate) fn close(self, alloc: Global) -> Result<(Element, ReversedDeclarations), NoMemory>
         ensures { IfOk result (λ closed. Closes self [] closed.0 closed.1) }
     {
         let OpenElement {
@@ -137,16 +138,16 @@ fn add_child(children: &mut Many<Child>, child: Child) -> Result<(), NoMemory>
 #[inline(always)]
 fn add_below(
     alloc: Global,
-    below: &mut TurnedDeclarations,
+    below: &mut ReversedDeclarations,
     index: usize,
-    declared: TurnedDeclarations,
+    declared: ReversedDeclarations,
 ) -> Result<(), NoMemory>
     ensures { OnOk result (below.new ≡ below.old ++ map (from_above index) declared) }
 {
     if declared.is_empty() {
         return Ok(());
     }
-    let others = mem::replace(below, TurnedDeclarations::new(alloc));
+    let others = mem::replace(below, ReversedDeclarations::new(alloc));
     *below = others.with_more(alloc, declared.raise(index)?)?;
     Ok(())
 }

@@ -5,7 +5,7 @@ ghost use Rattle.ifmap_reader.specs.Progress.{AfterRoot, EndAnswer, IsAfterEleme
 ghost use Rattle.ifmap_elem.specs.declared.tokens.Token.{Token};
 
 use crate::allowed_tags::open_element;
-use crate::declarations::TurnedDeclarations;
+use crate::declarations::ReversedDeclarations;
 use crate::errors::TokenRefusal;
 use crate::open_elements::OpenElement;
 use ifmap_elem::tokens::{Qualified, Tag, Token};
@@ -80,7 +80,10 @@ fn take_inside(
         Token::Start(tag) => take_start(alloc, depth, open_elements, tag),
         Token::Empty(tag) => take_empty(alloc, depth, open_elements, tag),
         Token::End(name) => take_end(alloc, open_elements, name),
-        Token::Section(text) => take_text(open_elements, false, text),
+        Token::Section(text) => {
+            let blank = false;
+            take_text(open_elements, blank, text)
+        }
         Token::Characters { blank, text } => take_text(open_elements, blank, text),
     }
 }
@@ -177,7 +180,7 @@ pub(crate) fn with_element(
     alloc: Global,
     open_elements: Vec<OpenElement>,
     element: Element,
-    declared: TurnedDeclarations,
+    declared: ReversedDeclarations,
 ) -> Result<DocumentProgress, NoMemory>
     ensures { IfOk result (λ new. IsAfterElement open_elements.items element declared new) }
 {
@@ -197,7 +200,7 @@ fn add_element(
     alloc: Global,
     open_elements: &mut Vec<OpenElement>,
     element: Element,
-    declared: TurnedDeclarations,
+    declared: ReversedDeclarations,
 ) -> Result<(), NoMemory>
     requires { 0 < vec_len open_elements.old }
     ensures { OnOk result (ChangesLast (λ f. with_inner f element declared)

@@ -1,6 +1,6 @@
 -- All that is kept, as calls change it.
 -- First: the session of one row changes (`one_row_changes`), in its queue alone (`kept_queue`) or in its last moment, which sets
--- its stamp (`kept_renewed`). Then: what holds of the stamps as a session ends (`moments_ended`) or begins (`moments_begun`).
+-- its last moment (`kept_renewed`). Then: what holds of the last moments as a session ends (`moments_ended`) or begins (`moments_begun`).
 use Rattle.std.proofs.Common.{◌≡◌, ◌≢◌, refl, sym, ◌∙◌, ap, ℕ, suc, ◌<◌, ◌≤◌, ◌==◌, List, [], ◌∷◌, ◌++◌, length, set, Some, inl, arith}
 use Rattle.std.proofs.lemmas.List.{length-set}
 use Rattle.std.proofs.lemmas.Option.{slice_get_within}
@@ -12,14 +12,14 @@ use Rattle.ifmap_search.specs.declared.results.PollItem.{PollItem}
 use Rattle.ifmap_session.specs.declared.holders.Holder.{Holder}
 use Rattle.ifmap_session.specs.declared.rows.SessionRow.{SessionRow}
 use Rattle.ifmap_session.specs.SessionIds.{session_id}
-use Rattle.ifmap_session.specs.Rows.{AreHolders, AreRows, AreStamps, ChangesSeat, AreTied, HasOwnSerial, Rewrites, live_in, spare_in}
+use Rattle.ifmap_session.specs.Rows.{AreHolders, AreRows, AreLastMoments, ChangesSeat, AreTied, HasOwnSerial, Rewrites, live_in, spare_in}
 use Rattle.ifmap_session.specs.Seats.{Seat}
 use Rattle.ifmap_session.specs.Sessions.{Session, change, session_with_serial, spare_of, with_error, with_item, with_last, without_items, without_name}
-use Rattle.ifmap_session.specs.Stamps.{Restamps, no_stamp}
+use Rattle.ifmap_session.specs.LastMoments.{SetsLastMoment, no_moment}
 use Rattle.ifmap_session.proofs.RowLaws.{changed_in_row, empty_row, found_in_row, spare_found, spare_other, row_of}
 use Rattle.ifmap_session.specs.laws.TableLaws.{KeepsIdAndClient, renewed_keeps}
 use Rattle.ifmap_session.proofs.SessionLaws.{holders_changed, own_at, rows_changed}
-use Rattle.ifmap_session.proofs.StampLaws.{stamped_alike, stamped_push, stamped_set}
+use Rattle.ifmap_session.proofs.LastMomentLaws.{moments_alike, moments_push, moments_set}
 
 pub kept_none : AreTied 0 [] [] 0 []
 unfolding IsStrictlySortedBy IsDistinct
@@ -31,7 +31,7 @@ kept_none = record {
     power = inl refl;
     few = omega arith;
     within = omega arith;
-    stamped = λ p less. absurd (omega arith);
+    has_moments = λ p less. absurd (omega arith);
   };
 }
 
@@ -100,9 +100,9 @@ module _ {counter : ℕ} {rows : List SessionRow} {holders : List Holder} {width
             (written_there rows place (row_of n b) (slice_get_within rows place (row_of n a) e)));
       }
 
-  -- its stamp stays
+  -- its last moment stays
   moments_same : (new : List SessionRow) (f : Session → Session) (P : Seat → Seat → Type 0) → ((s : Session) → (f s).last ≡ s.last)
-      → Rewrites place (ChangesSeat f P) rows new → AreStamps new width tree
+      → Rewrites place (ChangesSeat f P) rows new → AreLastMoments new width tree
   moments_same new f P last w =
       let r = w n a e in
       let b : Seat = r.0 in
@@ -112,7 +112,7 @@ module _ {counter : ℕ} {rows : List SessionRow} {holders : List Holder} {width
         power = k.moments.power;
         few = k.moments.few;
         within = rw (length-set rows place (row_of n b)) k.moments.within;
-        stamped = stamped_alike rows width place (row_of n a) (row_of n b) tree k.moments.stamped e within
+        has_moments = moments_alike rows width place (row_of n a) (row_of n b) tree k.moments.has_moments e within
             (ap (λ (s : Session). s.last) r.1.0 ∙ last a.session);
       })
 
@@ -124,43 +124,45 @@ module _ {counter : ℕ} {rows : List SessionRow} {holders : List Holder} {width
 
   -- it is set
   moments_set : (new : List SessionRow) (P : Seat → Seat → Type 0) (moment : ℕ) (tree2 : List ℕ)
-      → Rewrites place (ChangesSeat (with_last moment) P) rows new → Restamps width place moment tree tree2 → AreStamps new width tree2
-  moments_set new P moment tree2 w restamped =
+      → Rewrites place (ChangesSeat (with_last moment) P) rows new → SetsLastMoment width place moment tree tree2
+      → AreLastMoments new width tree2
+  moments_set new P moment tree2 w sets_moment =
       let r = w n a e in
       let b : Seat = r.0 in
       let within = slice_get_within rows place (row_of n a) e in
       rw r.2 (record {
-        lesser = restamped.tree;
+        lesser = sets_moment.tree;
         power = k.moments.power;
         few = k.moments.few;
         within = rw (length-set rows place (row_of n b)) k.moments.within;
-        stamped = stamped_set rows width place moment (row_of n b) tree tree2 k.moments.stamped within restamped
+        has_moments = moments_set rows width place moment (row_of n b) tree tree2 k.moments.has_moments within sets_moment
             (sym (ap (λ (s : Session). s.last) r.1.0));
       })
 
   pub kept_renewed : (new : List SessionRow) (P : Seat → Seat → Type 0) (moment : ℕ) (tree2 : List ℕ)
-      → Rewrites place (ChangesSeat (with_last moment) P) rows new → Restamps width place moment tree tree2
+      → Rewrites place (ChangesSeat (with_last moment) P) rows new → SetsLastMoment width place moment tree tree2
       → AreTied counter new holders width tree2
-  kept_renewed new P moment tree2 w restamped =
+  kept_renewed new P moment tree2 w sets_moment =
       let r = one_row_changes new (with_last moment) P (renewed_keeps moment) w in
-      record { sessions = r.sessions; clients = r.clients; moments = moments_set new P moment tree2 w restamped }
+      record { sessions = r.sessions; clients = r.clients; moments = moments_set new P moment tree2 w sets_moment }
 
-  -- a place is one that stamps are for
+  -- a place is one that last moments are for
   pub place_within : place < width
   place_within = let less = slice_get_within rows place (row_of n a) e in let within = k.moments.within in omega arith
 
 -- a session ends
-pub moments_ended : (n : ℕ) (rows : List SessionRow) (width : ℕ) (tree tree2 : List ℕ) (place : ℕ) (a : Seat) → AreStamps rows width tree
-    → slice_get rows place ≡ Some (row_of n a) → Restamps width place no_stamp tree tree2
-    → AreStamps (set rows place (empty_row n)) width tree2
-moments_ended n rows width tree tree2 place a m e restamped =
+pub moments_ended : (n : ℕ) (rows : List SessionRow) (width : ℕ) (tree tree2 : List ℕ) (place : ℕ) (a : Seat)
+    → AreLastMoments rows width tree
+    → slice_get rows place ≡ Some (row_of n a) → SetsLastMoment width place no_moment tree tree2
+    → AreLastMoments (set rows place (empty_row n)) width tree2
+moments_ended n rows width tree tree2 place a m e sets_moment =
     let within = slice_get_within rows place (row_of n a) e in
     record {
-      lesser = restamped.tree;
+      lesser = sets_moment.tree;
       power = m.power;
       few = m.few;
       within = rw (length-set rows place (empty_row n)) m.within;
-      stamped = stamped_set rows width place no_stamp (empty_row n) tree tree2 m.stamped within restamped refl;
+      has_moments = moments_set rows width place no_moment (empty_row n) tree tree2 m.has_moments within sets_moment refl;
     }
 
 -- one begins
@@ -168,15 +170,16 @@ push_length : (rows : List SessionRow) (r : SessionRow) → length (rows ++ r �
 push_length [] r = refl
 push_length (x ∷ rows) r = ap (λ m. suc m) (push_length rows r)
 
-pub moments_begun : (n : ℕ) (rows : List SessionRow) (width stamp : ℕ) (tree tree2 : List ℕ) (y : Seat) → AreStamps rows width tree
-    → length rows < width → Restamps width (length rows) stamp tree tree2 → y.session.last ≡ stamp
-    → AreStamps (rows ++ row_of n y ∷ []) width tree2
-moments_begun n rows width stamp tree tree2 y m less restamped is = record {
-  lesser = restamped.tree;
+pub moments_begun : (n : ℕ) (rows : List SessionRow) (width last_moment : ℕ) (tree tree2 : List ℕ) (y : Seat)
+    → AreLastMoments rows width tree
+    → length rows < width → SetsLastMoment width (length rows) last_moment tree tree2 → y.session.last ≡ last_moment
+    → AreLastMoments (rows ++ row_of n y ∷ []) width tree2
+moments_begun n rows width last_moment tree tree2 y m less sets_moment is = record {
+  lesser = sets_moment.tree;
   power = m.power;
   few = m.few;
   within = let l = push_length rows (row_of n y) in omega arith;
-  stamped = stamped_push rows width stamp (row_of n y) tree tree2 m.stamped restamped (sym is);
+  has_moments = moments_push rows width last_moment (row_of n y) tree tree2 m.has_moments sets_moment (sym is);
 }
 
 -- where a session is expired there is a row

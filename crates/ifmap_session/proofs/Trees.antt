@@ -1,6 +1,6 @@
--- Trees of stamps.
+-- Trees of last moments.
 -- First: a walk from a place to the root leaves all nodes in order but those above where it stands (`Walks`). Then: what
--- stands at the root is the least stamp (`root_least`, `root_there`). Last: the places that are due are found level by
+-- stands at the root is the least last moment (`root_least`, `root_there`). Last: the places that are due are found level by
 -- level: the children of what is due in one level hold all that is due in the next (`due_below`).
 use Rattle.std.proofs.Common.{◌≡◌, ◌≢◌, ◌⊎◌, refl, sym, ◌∙◌, ap, subst, ℕ, zero, suc, ◌+◌, ◌-◌, ◌*◌, ◌/◌, ◌%◌, ◌<◌, ◌≤◌, min, Bool, false, cond, List, [], ◌∷◌, length, set, filter, inl, inr, arith, mod-lt}
 use Rattle.std.proofs.lemmas.Bool.{cases_Bool, cases_lt}
@@ -10,7 +10,7 @@ use Rattle.std.proofs.lemmas.Nat.{div-add-mod'}
 use Rattle.std.proofs.lemmas.List.Elements.{All-from_recursion}
 use Rattle.std.specs.List.{All, AllByRecursion}
 use Rattle.ifmap_lemmas.specs.Filters.{all_filter}
-use Rattle.ifmap_session.specs.Stamps.{IsPower, IsTree, Restamps, node_value, children_of, doubled_number, due_nodes, is_due, numbers_from}
+use Rattle.ifmap_session.specs.LastMoments.{IsPower, IsTree, SetsLastMoment, node_value, children_of, doubled_number, due_nodes, is_due, numbers_from}
 
 -- a number halved so often
 abbrev pub half : ℕ → ℕ → ℕ
@@ -39,18 +39,18 @@ abbrev pub IsLesser : List ℕ → ℕ → Type 0
 IsLesser tree k = node_value tree k ≡ min (node_value tree (2 * k)) (node_value tree (2 * k + 1))
 
 -- where a walk from a place stands
-pub record Walks (width place stamp : ℕ) (old tree : List ℕ) (node : ℕ) : Type 0 where
+pub record Walks (width place last_moment : ℕ) (old tree : List ℕ) (node : ℕ) : Type 0 where
   pub long : length tree ≡ 2 * width
   pub low : 1 ≤ node
   pub high : node < 2 * width
   pub lesser : (k : ℕ) → 1 ≤ k → k < width → IsLesser tree k ⊎ Above k node
-  pub there : node_value tree (width + place) ≡ stamp
+  pub there : node_value tree (width + place) ≡ last_moment
   pub others : (k : ℕ) → width ≤ k → k < 2 * width → (k ≡ width + place) ⊎ (node_value tree k ≡ node_value old k)
 
-pub walk_begins : (width place stamp : ℕ) (old : List ℕ) → IsTree width old → place < width
-    → Walks width place stamp old (set old (width + place) stamp) (width + place)
-walk_begins width place stamp old t within = record {
-  long = length-set old (width + place) stamp ∙ t.long;
+pub walk_begins : (width place last_moment : ℕ) (old : List ℕ) → IsTree width old → place < width
+    → Walks width place last_moment old (set old (width + place) last_moment) (width + place)
+walk_begins width place last_moment old t within = record {
+  long = length-set old (width + place) last_moment ∙ t.long;
   low = omega arith;
   high = omega arith;
   lesser = λ k one less.
@@ -64,28 +64,28 @@ walk_begins width place stamp old t within = record {
           | inr not_past ↦ inr (0, omega arith)
         ]
       ];
-  there = get_or-set_same old (width + place) stamp 0 (omega (arith, t.long));
+  there = get_or-set_same old (width + place) last_moment 0 (omega (arith, t.long));
   others = λ k low high. elim (cases_lt k (width + place)) [
-    | inl l ↦ inr (get_or-set_other old (width + place) k stamp 0 (omega arith))
+    | inl l ↦ inr (get_or-set_other old (width + place) k last_moment 0 (omega arith))
     | inr g ↦ elim (cases_lt (width + place) k) [
-      | inl l ↦ inr (get_or-set_other old (width + place) k stamp 0 (omega arith))
+      | inl l ↦ inr (get_or-set_other old (width + place) k last_moment 0 (omega arith))
       | inr e ↦ inl (omega arith)
     ]
   ];
 } where
-  kept : (k : ℕ) → 1 ≤ k → k < width → 2 * k ≢ width + place → 2 * k + 1 ≢ width + place → IsLesser (set old (width + place) stamp) k
+  kept : (k : ℕ) → 1 ≤ k → k < width → 2 * k ≢ width + place → 2 * k + 1 ≢ width + place → IsLesser (set old (width + place) last_moment) k
   kept k one less a b =
       rw (
-        get_or-set_other old (width + place) k stamp 0 (omega arith),
-        get_or-set_other old (width + place) (2 * k) stamp 0 a,
-        get_or-set_other old (width + place) (2 * k + 1) stamp 0 b,
+        get_or-set_other old (width + place) k last_moment 0 (omega arith),
+        get_or-set_other old (width + place) (2 * k) last_moment 0 a,
+        get_or-set_other old (width + place) (2 * k + 1) last_moment 0 b,
       ) (t.lesser k one less)
 
 -- one step up
-pub walk_on : (width place stamp : ℕ) (old tree : List ℕ) (node lesser : ℕ) → Walks width place stamp old tree node → 1 < node
+pub walk_on : (width place last_moment : ℕ) (old tree : List ℕ) (node lesser : ℕ) → Walks width place last_moment old tree node → 1 < node
     → lesser ≡ min (node_value tree (2 * (node / 2))) (node_value tree (2 * (node / 2) + 1))
-    → Walks width place stamp old (set tree (node / 2) lesser) (node / 2)
-walk_on width place stamp old tree node lesser w more is = record {
+    → Walks width place last_moment old (set tree (node / 2) lesser) (node / 2)
+walk_on width place last_moment old tree node lesser w more is = record {
   long = length-set tree (node / 2) lesser ∙ w.long;
   low = elim (half_of node).is [ inl e ↦ omega arith | inr e ↦ omega arith ];
   high = omega arith;
@@ -150,9 +150,9 @@ walk_on width place stamp old tree node lesser w more is = record {
       ]
 
 -- at the root
-pub walk_ends : (width place stamp : ℕ) (old tree : List ℕ) (node : ℕ) → Walks width place stamp old tree node → node ≤ 1
-    → Restamps width place stamp old tree
-walk_ends width place stamp old tree node w end = record {
+pub walk_ends : (width place last_moment : ℕ) (old tree : List ℕ) (node : ℕ) → Walks width place last_moment old tree node → node ≤ 1
+    → SetsLastMoment width place last_moment old tree
+walk_ends width place last_moment old tree node w end = record {
   tree = record {
     long = w.long;
     lesser = λ k one less. elim (w.lesser k one less) [ inl is ↦ is | inr above ↦ absurd (none k one above) ];

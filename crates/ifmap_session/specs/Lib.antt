@@ -4,7 +4,7 @@ pub mod Sessions
 pub mod Openings
 -- How they are kept.
 pub mod Seats
-pub mod Stamps
+pub mod LastMoments
 pub mod Rows
 pub mod Places
 -- Laws on the definitions, which crates above cite.

@@ -1,4 +1,4 @@
--- The live sessions as they are kept: rows, holders and stamps, and what ties them.
+-- The live sessions as they are kept: rows, holders and last moments, and what ties them.
 use Rattle.std.specs.Prelude.{◌≡◌, ◌⊎◌, ℕ, ◌+◌, ◌-◌, ◌^◌, ◌≤◌, ◌<◌, List, find, flat_map, length, map, IfSome, MatchOption, Option, None, Some, option_map, option_to_list, slice_get, slice_set, unwrap_or}
 use Rattle.std.specs.Cmp.Lexicographic.{slice_cmp}
 use Rattle.std.specs.List.{AllByRecursion, IsDistinct}
@@ -10,7 +10,7 @@ use Rattle.ifmap_session.specs.declared.rows.SessionRow.{SessionRow}
 use Rattle.ifmap_session.specs.Seats.{Seat}
 use Rattle.ifmap_session.specs.SessionIds.{BeginsWithSerial}
 use Rattle.ifmap_session.specs.Sessions.{Session, is_same_text, most_sessions, session_of_client, session_with_serial}
-use Rattle.ifmap_session.specs.Stamps.{IsPower, IsTree, node_value, due_nodes, no_stamp, width_bound}
+use Rattle.ifmap_session.specs.LastMoments.{IsPower, IsTree, node_value, due_nodes, no_moment, width_bound}
 
 -- the sessions of rows: an empty row has none
 abbrev pub seats_of : List SessionRow → List Seat
@@ -41,9 +41,9 @@ pub record HasOwnSerial (serial : ℕ) (seat : Seat) : Type 0 where
   pub numbered : seat.session.serial ≡ serial
   pub id : BeginsWithSerial serial seat.session.id
 
--- the stamp of a row: the last moment of its session, or what no moment reaches
-abbrev pub stamp_of : SessionRow → ℕ
-stamp_of row = unwrap_or (option_map (λ (s : Seat). s.session.last) row.kept) no_stamp
+-- the last moment of a row: the last moment of its session, or what no moment reaches
+abbrev pub last_moment_of : SessionRow → ℕ
+last_moment_of row = unwrap_or (option_map (λ (s : Seat). s.session.last) row.kept) no_moment
 
 -- where the session of a serial stands, or that none is live
 abbrev pub IsRowOf : ℕ → List SessionRow → Option ℕ → Type 0
@@ -78,24 +78,24 @@ pub record AreHolders (rows : List SessionRow) (holders : List Holder) : Type 0 
       (λ (s : Session). s.serial) (session_of_client client (live_in rows))
   pub counts : length holders ≡ length (live_in rows)
 
--- each row has its stamp, and no other place has one
-abbrev pub IsStamped : List SessionRow → ℕ → List ℕ → Type 0
-IsStamped rows width tree =
-    (place : ℕ) → place < width → node_value tree (width + place) ≡ unwrap_or (option_map stamp_of (slice_get rows place)) no_stamp
+-- each row has its last moment, and no other place has one
+abbrev pub HasLastMoments : List SessionRow → ℕ → List ℕ → Type 0
+HasLastMoments rows width tree =
+    (place : ℕ) → place < width → node_value tree (width + place) ≡ unwrap_or (option_map last_moment_of (slice_get rows place)) no_moment
 
--- what holds of the stamps: each row has its own, and no other place has one
-pub record AreStamps (rows : List SessionRow) (width : ℕ) (tree : List ℕ) : Type 0 where
+-- what holds of the last moments: each row has its own, and no other place has one
+pub record AreLastMoments (rows : List SessionRow) (width : ℕ) (tree : List ℕ) : Type 0 where
   pub lesser : IsTree width tree
   pub power : (width ≡ 0) ⊎ IsPower width
   pub few : width < width_bound
   pub within : length rows ≤ width
-  pub stamped : IsStamped rows width tree
+  pub has_moments : HasLastMoments rows width tree
 
 -- all of these
 pub record AreTied (counter : ℕ) (rows : List SessionRow) (holders : List Holder) (width : ℕ) (tree : List ℕ) : Type 0 where
   pub sessions : AreRows counter rows
   pub clients : AreHolders rows holders
-  pub moments : AreStamps rows width tree
+  pub moments : AreLastMoments rows width tree
 
 -- the seat of a row is another, and P holds of it before and after; the other rows stay
 abbrev pub Rewrites : ℕ → (Seat → Seat → Type 0) → List SessionRow → List SessionRow → Type 0
@@ -116,11 +116,11 @@ IsTaken P rows place =
 abbrev pub serial_at : List SessionRow → ℕ → ℕ
 serial_at rows place = unwrap_or (option_map (λ (r : SessionRow). r.serial) (slice_get rows place)) 0
 
--- the serials of the rows whose stamps are no later than the limit
+-- the serials of the rows whose last moments are no later than the limit
 abbrev pub due_rows : List SessionRow → ℕ → List ℕ → ℕ → List ℕ
 due_rows rows width tree limit = map (λ node. serial_at rows (node - width)) (due_nodes width tree limit)
 
--- stamps for these rows may be made anew: they have so many sessions
+-- last moments for these rows may be made anew: they have so many sessions
 pub record CanWiden (rows : List SessionRow) (width live : ℕ) : Type 0 where
   pub power : (width ≡ 0) ⊎ IsPower width
   pub few : width < width_bound

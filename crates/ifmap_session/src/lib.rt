@@ -5,12 +5,12 @@
 mod errors;
 mod holders;
 mod ids;
+mod last_moments;
 mod limits;
 mod openings;
 mod queues;
 mod rows;
 mod sessions;
-mod stamps;
 
 pub use errors::BeginError;
 pub use ifmap_search::{PollItem, Search, SearchError};

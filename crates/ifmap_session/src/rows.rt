@@ -2,13 +2,13 @@
 //! other moves.
 ghost use Rattle.std.specs.Prelude.{◌≡◌, ℕ, ◌+◌, ◌-◌, ◌*◌, ◌<◌, ◌≤◌, IfOk, MatchOption, None, OnErr, OnOk, Some, filter, is_some, length, map, slice_get, slice_set, vec_capacity, vec_len};
 ghost use Rattle.std.specs.List.{All};
-ghost use Rattle.ifmap_session.specs.Rows.{AreOwn, AreStamps, CanWiden, ChangesSeat, IsRowOf, IsSeatOf, IsStamped, IsTaken, Rewrites, due_rows, live_in, serial_at, stamp_of};
+ghost use Rattle.ifmap_session.specs.Rows.{AreOwn, AreLastMoments, CanWiden, ChangesSeat, IsRowOf, IsSeatOf, HasLastMoments, IsTaken, Rewrites, due_rows, live_in, serial_at, last_moment_of};
 ghost use Rattle.ifmap_session.specs.Seats.{Seat};
 ghost use Rattle.ifmap_session.specs.Sessions.{IsLive, session_with_serial, with_error, with_item, with_last, without_items, without_name};
-ghost use Rattle.ifmap_session.specs.Stamps.{IsTree, node_value, no_stamp};
+ghost use Rattle.ifmap_session.specs.LastMoments.{IsTree, node_value, no_moment};
 
+use crate::last_moments::{NO_MOMENT, due_nodes, next_width, set_last_moment};
 use crate::queues::LiveSession;
-use crate::stamps::{NO_STAMP, due_nodes, next_width, set_stamp};
 use ifmap_elem::{Many, Text};
 use ifmap_io::Moment;
 use ifmap_search::PollItem;
@@ -148,16 +148,16 @@ pub fn end_at(rows: &mut Vec<SessionRow>, place: usize) -> LiveSession
     rows[place].kept.take().unwrap()
 }
 
-/// Stamps for rows.
+/// Last moments for rows.
 #[derive(Drop)]
 pub struct Wide {
     /// For how many rows they are.
     pub width: usize,
     /// The tree of the last moments by row.
-    pub stamps: Vec<u64>,
+    pub last_moments: Vec<u64>,
 }
 
-/// Drops the empty rows, and makes stamps for these and more. The one error is want of memory,
+/// Drops the empty rows, and makes last moments for these and more. The one error is want of memory,
 /// which leaves the rows.
 pub fn widen(
     alloc: Global,
@@ -172,15 +172,19 @@ pub fn widen(
     ensures len { vec_len rows.new ≤ vec_len rows.old }
     ensures same { OnErr result (vec_len rows.new ≡ vec_len rows.old) }
     ensures capacity { vec_capacity rows.new ≡ vec_capacity rows.old }
-    ensures stamps { IfOk result (λ w. AreStamps rows.new.items w.width w.stamps.items) }
+    ensures last_moments { IfOk result (λ w. AreLastMoments rows.new.items w.width
+        w.last_moments.items) }
     ensures wide { IfOk result (λ w. length rows.new.items < w.width) }
     ensures more { IfOk result (λ w. width ≤ w.width) }
 {
     let width = next_width(width, live);
-    let mut stamps = Vec::from_elem(alloc, NO_STAMP, 2 * width)?;
+    let mut last_moments = Vec::from_elem(alloc, NO_MOMENT, 2 * width)?;
     drop_empty(rows);
-    stamp_rows(&mut stamps, width, rows);
-    Ok(Wide { width, stamps })
+    set_row_moments(&mut last_moments, width, rows);
+    Ok(Wide {
+        width,
+        last_moments,
+    })
 }
 
 fn drop_empty(rows: &mut Vec<SessionRow>)
@@ -191,47 +195,47 @@ fn drop_empty(rows: &mut Vec<SessionRow>)
     rows.retain(|row| row.kept.is_some());
 }
 
-// Stamps each row with the last moment of its session.
-fn stamp_rows(stamps: &mut Vec<u64>, width: usize, rows: &[SessionRow])
-    requires tree { IsTree width stamps.old.items }
+// Last moments each row with the last moment of its session.
+fn set_row_moments(last_moments: &mut Vec<u64>, width: usize, rows: &[SessionRow])
+    requires tree { IsTree width last_moments.old.items }
     requires blank { (node : ℕ) → width ≤ node → node < 2 * width
-        → node_value stamps.old.items node ≡ no_stamp }
+        → node_value last_moments.old.items node ≡ no_moment }
     requires within { length rows.now ≤ width }
-    ensures tree { IsTree width stamps.new.items }
-    ensures stamped { IsStamped rows.now width stamps.new.items }
+    ensures tree { IsTree width last_moments.new.items }
+    ensures has_moments { HasLastMoments rows.now width last_moments.new.items }
 {
     for place in 0..rows.len() {
-        set_stamp(stamps, width, place, stamp_of(&rows[place]));
+        set_last_moment(last_moments, width, place, last_moment_of(&rows[place]));
     }
 }
 
 // The last moment of the row's session; what no moment reaches where it is empty.
-fn stamp_of(row: &SessionRow) -> u64
-    ensures { result ≡ stamp_of row.now }
+fn last_moment_of(row: &SessionRow) -> u64
+    ensures { result ≡ last_moment_of row.now }
 {
     match &row.kept {
         Some(kept) => kept.last().seconds(),
-        None => NO_STAMP,
+        None => NO_MOMENT,
     }
 }
 
-/// The serials of the sessions whose stamps are no later than the limit, in their order. The one
+/// The serials of the sessions whose last moments are no later than the limit, in their order. The one
 /// error is want of memory.
 pub fn due_serials(
     alloc: Global,
     rows: &[SessionRow],
-    stamps: &[u64],
+    last_moments: &[u64],
     width: usize,
     limit: u64,
 ) -> Result<Many<u64>, NoMemory>
-    requires stamps { AreStamps rows.now width stamps.now }
-    requires limit { limit < no_stamp }
-    ensures { IfOk result (λ serials. serials ≡ due_rows rows.now width stamps.now limit) }
+    requires last_moments { AreLastMoments rows.now width last_moments.now }
+    requires limit { limit < no_moment }
+    ensures { IfOk result (λ serials. serials ≡ due_rows rows.now width last_moments.now limit) }
 {
     if width == 0 {
         return Ok(Many(Vec::new(alloc)));
     }
-    let nodes = due_nodes(alloc, stamps, width, limit)?;
+    let nodes = due_nodes(alloc, last_moments, width, limit)?;
     Ok(Many(serials_of(alloc, rows, &nodes, width)?))
 }
 

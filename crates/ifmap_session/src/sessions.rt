@@ -9,13 +9,13 @@ ghost use Rattle.ifmap_session.specs.Sessions.{Changes, ChangesRoom, HasRoomForO
 use crate::errors::BeginError;
 use crate::holders::{Holder, place_of_client};
 use crate::ids::{new_id, serial_of};
+use crate::last_moments::{NO_MOMENT, is_any_due, set_last_moment};
 use crate::openings::{Begun, Opening};
 use crate::queues::LiveSession;
 use crate::rows::{
     SessionRow, drop_name_at, due_serials, end_at, find_live, overflow_at, place_in, push_at,
     renew_at, reserve_at, take_all_at, widen,
 };
-use crate::stamps::{NO_STAMP, is_any_due, set_stamp};
 use ifmap_elem::{Copied, Equals, Many, Text};
 use ifmap_io::Moment;
 use ifmap_meta::ClientName;
@@ -34,9 +34,9 @@ pub struct Sessions {
     counter: u64,
     rows: Vec<SessionRow>,
     holders: Vec<Holder>,
-    // How many rows the stamps are for, and the tree of the last moments by row.
+    // How many rows the last moments are for, and the tree of the last moments by row.
     width: usize,
-    stamps: Vec<u64>,
+    last_moments: Vec<u64>,
 }
 
 impl Model for Sessions {
@@ -59,7 +59,7 @@ impl Model for Sessions {
     } };
 
     ghost invariant = { λ s. AreTied s.counter s.rows.items s.holders.items s.width
-        s.stamps.items };
+        s.last_moments.items };
 }
 
 impl Sessions {
@@ -73,7 +73,7 @@ impl Sessions {
             rows: Vec::new(alloc),
             holders: Vec::new(alloc),
             width: 0,
-            stamps: Vec::new(alloc),
+            last_moments: Vec::new(alloc),
         }
     }
 
@@ -226,8 +226,8 @@ impl Sessions {
                 },
             )
             .unwrap();
-        set_stamp(
-            &mut self.stamps,
+        set_last_moment(
+            &mut self.last_moments,
             self.width,
             self.rows.len(),
             moment.seconds(),
@@ -250,7 +250,7 @@ impl Sessions {
     {
         let place = place_in(&self.rows, serial);
         renew_at(&mut self.rows, place, moment);
-        set_stamp(&mut self.stamps, self.width, place, moment.seconds());
+        set_last_moment(&mut self.last_moments, self.width, place, moment.seconds());
     }
 
     /// Ends a live session. It takes no memory.
@@ -269,7 +269,7 @@ impl Sessions {
         let ended = end_at(&mut self.rows, place);
         let holder = place_of_client(&self.holders, ended.client()).unwrap();
         let _holder = self.holders.remove(holder);
-        set_stamp(&mut self.stamps, self.width, place, NO_STAMP);
+        set_last_moment(&mut self.last_moments, self.width, place, NO_MOMENT);
     }
 
     /// The serials of the sessions that are expired at that moment, in their order: whose last
@@ -278,7 +278,7 @@ impl Sessions {
         ensures { IfOk result (λ serials. serials ≡ expired_serials moment ttl self.now.live) }
     {
         match moment.seconds().checked_sub(ttl as u64) {
-            Some(limit) => due_serials(alloc, &self.rows, &self.stamps, self.width, limit),
+            Some(limit) => due_serials(alloc, &self.rows, &self.last_moments, self.width, limit),
             None => Ok(Many(Vec::new(alloc))),
         }
     }
@@ -289,7 +289,7 @@ impl Sessions {
         ensures { result ≡ list_any (is_expired moment ttl) self.now.live }
     {
         match moment.seconds().checked_sub(ttl as u64) {
-            Some(limit) => is_any_due(&self.stamps, self.width, limit),
+            Some(limit) => is_any_due(&self.last_moments, self.width, limit),
             None => false,
         }
     }
@@ -387,7 +387,7 @@ impl Sessions {
         let live = self.holders.len();
         let wide = widen(alloc, &mut self.rows, self.width, live)?;
         self.width = wide.width;
-        self.stamps = wide.stamps;
+        self.last_moments = wide.last_moments;
         reserve_one(&mut self.rows, &mut self.holders)
     }
 }

@@ -13,7 +13,7 @@ use Rattle.std.specs.Str.{bytes_eq}
 use Rattle.std.specs.declared.cmp.Ordering.TheVariants.{Less}
 use Rattle.ifmap_ident.specs.Items.{item_order, items_tie}
 use Rattle.ifmap_lemmas.specs.Having.{Has, any_has, filter_has, has_any, has_filter, all_has}
-use Rattle.ifmap_lemmas.specs.Orderings.{eq_turned}
+use Rattle.ifmap_lemmas.specs.Orderings.{eq_reversed}
 use Rattle.ifmap_plans.specs.Placing.{put}
 use Rattle.ifmap_plans.specs.laws.PlacingLaws.{has_put, has_put_one, put_has, put_sorted}
 use Rattle.ifmap_ident.specs.SameLaws.{items_total}
@@ -41,7 +41,7 @@ entries_tie x y =
 
 pub same_turned : (x y : Entry) → same_entry x y ≡ same_entry y x
 same_turned x y =
-    entries_tie x y ∙ ap is_eq (entries_total.antisymm x y) ∙ eq_turned (entry_order y x) ∙ sym (entries_tie y x)
+    entries_tie x y ∙ ap is_eq (entries_total.antisymm x y) ∙ eq_reversed (entry_order y x) ∙ sym (entries_tie y x)
 
 same_entry_itself : (x : Entry) → same_entry x x ≡ true
 same_entry_itself x = entries_tie x x ∙ ap is_eq (tied_itself entries_total x)

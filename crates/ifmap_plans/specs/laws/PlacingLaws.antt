@@ -14,7 +14,7 @@ use Rattle.std.specs.Result.{is_ok}
 use Rattle.std.specs.declared.cmp.Ordering.TheVariants.{Less, Equal, Greater}
 use Rattle.ifmap_lemmas.specs.Filters.{all_around, all_at, all_filter, all_weaker, filter_all, filter_none, filter_passes}
 use Rattle.ifmap_lemmas.specs.Having.{Has, filter_has, has_either, has_filter, has_left, has_right}
-use Rattle.ifmap_lemmas.specs.Orderings.{greater_turned, is_greater, is_less, less_differs, less_turned}
+use Rattle.ifmap_lemmas.specs.Orderings.{greater_reversed, is_greater, is_less, less_differs, less_reversed}
 use Rattle.ifmap_lemmas.specs.Rising.{rises_around, rises_in_order}
 use Rattle.ifmap_plans.specs.Placing.{IsSpot, put}
 pub use Rattle.ifmap_lemmas.specs.Inserted.{found_any, gap_none}
@@ -24,11 +24,11 @@ module _ (X : Type 0) (C : X → X → Ordering) (o : IsTotalOrder C) where
   greater_next : (a x : X) (xs : List X) → C x a ≡ Greater → AllByRecursion (λ y. C x y ≡ Less) xs
       → AllByRecursion (λ y. C y a ≡ Greater) xs
   greater_next a x xs h up = all_weaker (λ y. C x y ≡ Less) (λ y. C y a ≡ Greater)
-      (λ y l. less_turned o a y (o.trans a x y (greater_turned o x a h) l)) xs up
+      (λ y l. less_reversed o a y (o.trans a x y (greater_reversed o x a h) l)) xs up
 
   greater_after : (a x : X) (xs : List X) → C x a ≡ Equal → AllByRecursion (λ y. C x y ≡ Less) xs → AllByRecursion (λ y. C y a ≡ Greater) xs
   greater_after a x xs h up = all_weaker (λ y. C x y ≡ Less) (λ y. C y a ≡ Greater)
-      (λ y l. less_turned o a y (sym (o.congr x a y h) ∙ l)) xs up
+      (λ y l. less_reversed o a y (sym (o.congr x a y h) ∙ l)) xs up
 
   -- where all are greater, it goes in front
   pub put_front : (a : X) (xs : List X) → AllByRecursion (λ y. C y a ≡ Greater) xs → put C a xs ≡ a ∷ xs
@@ -97,7 +97,7 @@ module _ (X : Type 0) (C : X → X → Ordering) (o : IsTotalOrder C) where
       (IsStrictlySortedBy-filter C (λ y. is_lt (C y a)) xs up) (IsStrictlySortedBy-filter C (λ y. is_gt (C y a)) xs up)
       (all_weaker (λ y. is_lt (C y a) ≡ true) (λ y. C y a ≡ Less) (λ y h. is_less (C y a) h) _ (filter_passes (λ y. is_lt (C y a)) xs))
       (all_weaker (λ y. is_gt (C y a) ≡ true) (λ y. C a y ≡ Less)
-      (λ y h. greater_turned o y a (is_greater (C y a) h)) _ (filter_passes (λ y. is_gt (C y a)) xs))
+      (λ y h. greater_reversed o y a (is_greater (C y a) h)) _ (filter_passes (λ y. is_gt (C y a)) xs))
 
   -- and has the one that was put in
   pub has_put_one : (a : X) (xs : List X) → Has (put C a xs) a

@@ -1,5 +1,5 @@
 use Rattle.std.proofs.Common.{◌≡◌, ◌++◌, map}
-use Rattle.ifmap_reader.specs.TurnedPaths.{lengthen}
+use Rattle.ifmap_reader.specs.ReversedPaths.{lengthen}
 use Rattle.ifmap_reader.proofs.declarations.push_rows.Given as goal
 
 abbrev pub invariant-loop-row : goal.invariant-loop-row

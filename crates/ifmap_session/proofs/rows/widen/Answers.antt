@@ -2,22 +2,22 @@ use Rattle.std.proofs.Common.{inr, arith}
 use Rattle.ifmap_session.proofs.RowLaws.{few_rows}
 use Rattle.ifmap_session.proofs.rows.widen.Goals as goal
 
-pub stamp_rows-requires-clause-within : goal.stamp_rows-requires-clause-within
-stamp_rows-requires-clause-within c =
+pub set_row_moments-requires-clause-within : goal.set_row_moments-requires-clause-within
+set_row_moments-requires-clause-within c =
     let l = few_rows c.args.rows.now.items c.drop_empty.new.rows.items c.args.live c.drop_empty.ensures.items c.requires.counts in
     let w = c.next_width-width.ensures.wide in
     rw c.deref.ensures.value (omega arith)
 
-pub returns-clause-stamps : goal.returns-clause-stamps
-returns-clause-stamps c =
+pub returns-clause-last_moments : goal.returns-clause-last_moments
+returns-clause-last_moments c =
     let l = few_rows c.args.rows.now.items c.drop_empty.new.rows.items c.args.live c.drop_empty.ensures.items c.requires.counts in
     let w = c.next_width-width.ensures.wide in
     record {
-      lesser = c.stamp_rows.ensures.tree;
+      lesser = c.set_row_moments.ensures.tree;
       power = inr c.next_width-width.ensures.power;
       few = c.next_width-width.ensures.few;
       within = omega arith;
-      stamped = rw c.deref.ensures.value at c.stamp_rows.ensures.stamped;
+      has_moments = rw c.deref.ensures.value at c.set_row_moments.ensures.has_moments;
     }
 
 pub returns-clause-wide : goal.returns-clause-wide

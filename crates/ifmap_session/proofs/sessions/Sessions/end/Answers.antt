@@ -19,8 +19,8 @@ unwrap-holder-requires c =
     (rw (c.deref-2.ensures.value, same) (holder_is_there c.args.serial c.self.inside.rows.items c.self.inside.holders.items
     c.place_in-place.result got.0 c.self.invariant.sessions.own c.self.invariant.clients got.1))
 
-pub set_stamp-requires-clause-place : goal.set_stamp-requires-clause-place
-set_stamp-requires-clause-place c =
+pub set_last_moment-requires-clause-place : goal.set_last_moment-requires-clause-place
+set_last_moment-requires-clause-place c =
     let got = rw c.deref.ensures.value at c.place_in-place.ensures in
     place_within c.self.invariant c.args.serial c.place_in-place.result got.0 got.1
 
@@ -37,8 +37,8 @@ invariant_of-self c =
       clients = holders_ended c.args.serial c.self.inside.rows.items c.self.inside.holders.items c.remove-holder.new.self.items
           c.place_in-place.result got.0 c.place_of_client.result c.unwrap-holder.result c.self.invariant.sessions.apart
           c.self.invariant.sessions.own c.self.invariant.clients got.1 place c.unwrap-holder.ensures c.remove-holder.ensures.items;
-      moments = moments_ended c.args.serial c.self.inside.rows.items c.self.inside.width c.self.inside.stamps.items
-          c.set_stamp.new.tree.items c.place_in-place.result got.0 c.self.invariant.moments got.1 c.set_stamp.ensures;
+      moments = moments_ended c.args.serial c.self.inside.rows.items c.self.inside.width c.self.inside.last_moments.items
+          c.set_last_moment.new.tree.items c.place_in-place.result got.0 c.self.invariant.moments got.1 c.set_last_moment.ensures;
     })
 
 pub returns-clause-live : goal.returns-clause-live

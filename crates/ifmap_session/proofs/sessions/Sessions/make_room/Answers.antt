@@ -26,7 +26,7 @@ invariant_of-self-2 c =
     rw (rows, c.reserve_one-2.ensures.holders) (record {
       sessions = rows_filled c.self.inside.counter c.self.inside.rows.items c.self.invariant.sessions;
       clients = holders_filled c.self.inside.rows.items c.self.inside.holders.items c.self.invariant.clients;
-      moments = rw c.in_ok-wide.ensures.items at c.in_ok-wide.ensures.stamps;
+      moments = rw c.in_ok-wide.ensures.items at c.in_ok-wide.ensures.last_moments;
     })
 
 pub returns-clause-same : goal.returns-clause-same

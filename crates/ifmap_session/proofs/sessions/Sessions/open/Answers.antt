@@ -6,7 +6,7 @@ use Rattle.ifmap_session.specs.Rows.{live_in}
 use Rattle.ifmap_session.specs.Places.{IsPlaceFor, IsPlaceOf}
 use Rattle.ifmap_session.specs.SessionIds.{session_id}
 use Rattle.ifmap_session.specs.Sessions.{Session, is_same_text, session_of_client}
-use Rattle.ifmap_session.specs.Stamps.{Restamps}
+use Rattle.ifmap_session.specs.LastMoments.{SetsLastMoment}
 use Rattle.ifmap_session.proofs.KeptLaws.{begun_own, moments_begun}
 use Rattle.ifmap_session.proofs.RowLaws.{spare_begun}
 use Rattle.ifmap_session.proofs.SessionLaws.{holders_begun, no_holder, place_is_err, rows_begun}
@@ -42,10 +42,10 @@ invariant_of-self c =
     ∙ ap (λ m. insert c.self.inside.holders.items c.unwrap_err-place.result (record { client = c.opening.inside.client; serial = m })) same
     ∙ ap (λ k. insert c.self.inside.holders.items c.unwrap_err-place.result (record { client = k; serial = c.self.inside.counter + 1 }))
     (sym client) in
-    let restamped : Restamps c.self.inside.width (length c.self.inside.rows.items) c.seconds.result c.self.inside.stamps.items
-    c.set_stamp.new.tree.items =
-    subst (λ p. Restamps c.self.inside.width p c.seconds.result c.self.inside.stamps.items c.set_stamp.new.tree.items)
-    (let l = c.len.ensures in omega arith) c.set_stamp.ensures in
+    let sets_moment : SetsLastMoment c.self.inside.width (length c.self.inside.rows.items) c.seconds.result c.self.inside.last_moments.items
+    c.set_last_moment.new.tree.items =
+    subst (λ p. SetsLastMoment c.self.inside.width p c.seconds.result c.self.inside.last_moments.items c.set_last_moment.new.tree.items)
+    (let l = c.len.ensures in omega arith) c.set_last_moment.ensures in
     rw (c.push_reserved.ensures.items, same) (record {
       sessions = rows_begun c.self.inside.counter c.self.inside.rows.items y c.self.invariant.sessions small none_of_its few
           (begun_own (c.self.inside.counter + 1) c.opening.invariant.named.0 y serial id);
@@ -53,7 +53,7 @@ invariant_of-self c =
           c.unwrap_err-place.result c.place_of_client.result c.self.invariant.clients none_of_its serial place gap
           c.unwrap_err-place.ensures entered;
       moments = moments_begun (c.self.inside.counter + 1) c.self.inside.rows.items c.self.inside.width c.seconds.result
-          c.self.inside.stamps.items c.set_stamp.new.tree.items y c.self.invariant.moments (omega arith) restamped
+          c.self.inside.last_moments.items c.set_last_moment.new.tree.items y c.self.invariant.moments (omega arith) sets_moment
           (ap (λ (s : Session). s.last) c.new-kept.ensures ∙ sym c.seconds.ensures.value);
     })
 

@@ -1,6 +1,6 @@
 use Rattle.std.proofs.Common.{◌≡◌, refl, subst, arith}
 use Rattle.ifmap_session.specs.Sessions.{with_last}
-use Rattle.ifmap_session.specs.Stamps.{Restamps}
+use Rattle.ifmap_session.specs.LastMoments.{SetsLastMoment}
 use Rattle.ifmap_session.proofs.KeptLaws.{kept_renewed, one_row_changes, place_within}
 use Rattle.ifmap_session.proofs.RowLaws.{spare_same}
 use Rattle.ifmap_session.proofs.sessions.Sessions.renew.Goals as goal
@@ -15,9 +15,10 @@ pub invariant_of-self : goal.invariant_of-self
 invariant_of-self c =
     let got = rw c.deref.ensures.value at c.place_in-place.ensures in
     kept_renewed c.self.invariant c.args.serial c.place_in-place.result got.0 got.1 c.renew_at.new.rows.items
-    (λ a b. b.spare ≡ a.spare) c.args.moment c.set_stamp.new.tree.items c.renew_at.ensures.rows
-    (subst (λ m. Restamps c.self.inside.width c.place_in-place.result m c.self.inside.stamps.items c.set_stamp.new.tree.items)
-    c.seconds.ensures.value c.set_stamp.ensures)
+    (λ a b. b.spare ≡ a.spare) c.args.moment c.set_last_moment.new.tree.items c.renew_at.ensures.rows
+    (subst (λ m. SetsLastMoment c.self.inside.width c.place_in-place.result m c.self.inside.last_moments.items
+    c.set_last_moment.new.tree.items)
+    c.seconds.ensures.value c.set_last_moment.ensures)
 
 pub returns-clause-changes : goal.returns-clause-changes
 returns-clause-changes c =
@@ -32,8 +33,8 @@ returns-clause-changes c =
       room = let l = c.renew_at.ensures.len in let k = c.renew_at.ensures.capacity in omega arith;
     })
 
-pub set_stamp-requires-clause-place : goal.set_stamp-requires-clause-place
-set_stamp-requires-clause-place c =
+pub set_last_moment-requires-clause-place : goal.set_last_moment-requires-clause-place
+set_last_moment-requires-clause-place c =
     let got = rw c.deref.ensures.value at c.place_in-place.ensures in
     place_within c.self.invariant c.args.serial c.place_in-place.result got.0 got.1
 

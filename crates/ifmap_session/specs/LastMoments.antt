@@ -1,25 +1,25 @@
--- Stamps by place, of which the least is known.
+-- Last moments by place, of which the least is known.
 use Rattle.std.specs.Prelude.{◌≡◌, ◌⊎◌, ℕ, zero, suc, ◌+◌, ◌-◌, ◌*◌, ◌^◌, ◌≤◌, ◌<◌, nat_le, ◌==◌, ◌&&◌, not, Bool, List, [], ◌∷◌, filter, flat_map, length, min, slice_index_or}
 use Rattle.ifmap_session.specs.Sessions.{most_sessions}
 
--- the stamp of a place that has none: no moment reaches it
-abbrev pub no_stamp : ℕ
-no_stamp = 2 ^ 64 - 1
+-- the last moment of a place that has none: no moment reaches it
+abbrev pub no_moment : ℕ
+no_moment = 2 ^ 64 - 1
 
 -- what stands at a node
 abbrev pub node_value : List ℕ → ℕ → ℕ
 node_value tree node = slice_index_or tree node 0
 
--- the second half has a stamp for each place; before it stands at each node from 1 on the lesser of what stands at its two children
+-- the second half has a last moment for each place; before it stands at each node from 1 on the lesser of what stands at its two children
 pub record IsTree (width : ℕ) (tree : List ℕ) : Type 0 where
   pub long : length tree ≡ 2 * width
   pub lesser : (node : ℕ) → 1 ≤ node → node < width → node_value tree node ≡ min (node_value tree (2 * node))
       (node_value tree (2 * node + 1))
 
--- one place has another stamp
-pub record Restamps (width place stamp : ℕ) (old new : List ℕ) : Type 0 where
+-- one place has another last moment
+pub record SetsLastMoment (width place last_moment : ℕ) (old new : List ℕ) : Type 0 where
   pub tree : IsTree width new
-  pub there : node_value new (width + place) ≡ stamp
+  pub there : node_value new (width + place) ≡ last_moment
   pub others : (node : ℕ) → width ≤ node → node < 2 * width → (node ≡ width + place) ⊎ (node_value new node ≡ node_value old node)
 
 -- n numbers, from the first on
@@ -27,7 +27,7 @@ abbrev pub numbers_from : ℕ → ℕ → List ℕ
 numbers_from first zero = []
 numbers_from first (suc n) = first ∷ numbers_from (first + 1) n
 
--- whether a stamp is no later than the limit
+-- whether a last moment is no later than the limit
 abbrev pub is_due : List ℕ → ℕ → ℕ → Bool
 is_due tree limit node = nat_le (node_value tree node) limit
 
@@ -35,7 +35,7 @@ is_due tree limit node = nat_le (node_value tree node) limit
 abbrev pub children_of : List ℕ → List ℕ
 children_of nodes = flat_map (λ node. (2 * node) ∷ ((2 * node + 1) ∷ [])) nodes
 
--- the nodes of all places whose stamps are no later than the limit
+-- the nodes of all places whose last moments are no later than the limit
 abbrev pub due_nodes : ℕ → List ℕ → ℕ → List ℕ
 due_nodes width tree limit = filter (is_due tree limit) (numbers_from width width)
 
@@ -52,6 +52,6 @@ IsPower width = (times : ℕ) × (width ≡ doubled_number times 1)
 abbrev pub width_bound : ℕ
 width_bound = 4 * most_sessions
 
--- whether the least stamp is no later than the limit
+-- whether the least last moment is no later than the limit
 abbrev pub is_any_due : ℕ → List ℕ → ℕ → Bool
 is_any_due width tree limit = not (width == 0) && is_due tree limit 1

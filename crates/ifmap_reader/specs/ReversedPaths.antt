@@ -7,5 +7,5 @@ abbrev pub lengthen : List ℕ → Declared → Declared
 lengthen above d = record { path = d.path ++ above; prefix = d.prefix; space = d.space }
 
 -- with its path turned, which goes on so
-abbrev pub turn_path : List ℕ → Declared → Declared
-turn_path above d = record { path = reverse (d.path ++ above); prefix = d.prefix; space = d.space }
+abbrev pub reverse_path : List ℕ → Declared → Declared
+reverse_path above d = record { path = reverse (d.path ++ above); prefix = d.prefix; space = d.space }

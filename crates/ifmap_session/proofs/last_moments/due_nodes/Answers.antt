@@ -1,5 +1,5 @@
 use Rattle.ifmap_session.proofs.Trees.{level_children, level_ends, level_next, root_within}
-use Rattle.ifmap_session.proofs.stamps.due_nodes.Goals as goal
+use Rattle.ifmap_session.proofs.last_moments.due_nodes.Goals as goal
 
 pub push_due-requires : goal.push_due-requires
 push_due-requires c = root_within c.args.width c.args.tree.now c.requires.tree c.requires.power

@@ -1,18 +1,18 @@
-//! Stamps by place, of which the least is known at once. They stand in the second half of a slice;
+//! Last moments by place, of which the least is known at once. They stand in the second half of a slice;
 //! in the first half stands at each node from 1 on the lesser of what stands at its two children,
-//! so that one stamp is changed by a walk to the root.
+//! so that one last moment is changed by a walk to the root.
 ghost use Rattle.std.specs.Prelude.{◌≡◌, ◌⊎◌, ℕ, ◌+◌, ◌*◌, ◌≤◌, ◌<◌, ◌∷◌, ◌++◌, [], All, IfOk, OnOk, filter, length, min};
-ghost use Rattle.ifmap_session.specs.Stamps.{IsPower, IsTree, Restamps, node_value, children_of, due_nodes, is_any_due, is_due, width_bound};
+ghost use Rattle.ifmap_session.specs.LastMoments.{IsPower, IsTree, SetsLastMoment, node_value, children_of, due_nodes, is_any_due, is_due, width_bound};
 ghost use Rattle.ifmap_session.specs.Sessions.{most_sessions};
 
 use std::alloc::{AllocError as NoMemory, Global};
 
-/// The stamp of a place that has none, which no moment reaches.
-pub const NO_STAMP: u64 = u64::MAX;
+/// The last moment of a place that has none, which no moment reaches.
+pub const NO_MOMENT: u64 = u64::MAX;
 
-/// For how many places there are to be stamps where those of this width do not serve: twice as many
+/// For how many places there are to be last moments where those of this width do not serve: twice as many
 /// where more than half of them are taken, and 64 at least.
-#[tactic(auto, using(crate::proofs::Trees::power_again, crate::proofs::Trees::first_power, crate::proofs::StampLaws::is_power))]
+#[tactic(auto, using(crate::proofs::Trees::power_again, crate::proofs::Trees::first_power, crate::proofs::LastMomentLaws::is_power))]
 pub fn next_width(width: usize, live: usize) -> usize
     requires power { (width ≡ 0) ⊎ IsPower width }
     requires live { live ≤ width }
@@ -32,14 +32,14 @@ pub fn next_width(width: usize, live: usize) -> usize
     }
 }
 
-/// Sets the stamp of a place.
-pub fn set_stamp(tree: &mut Vec<u64>, width: usize, place: usize, stamp: u64)
+/// Sets the last moment of a place.
+pub fn set_last_moment(tree: &mut Vec<u64>, width: usize, place: usize, last_moment: u64)
     requires tree { IsTree width tree.old.items }
     requires place { place < width }
-    ensures { Restamps width place stamp tree.old.items tree.new.items }
+    ensures { SetsLastMoment width place last_moment tree.old.items tree.new.items }
 {
     let mut node = width + place;
-    tree[node] = stamp;
+    tree[node] = last_moment;
     while 1 < node {
         node /= 2;
         tree[node] = lesser_child(tree, node);
@@ -54,7 +54,7 @@ fn lesser_child(tree: &[u64], node: usize) -> u64
     tree[2 * node].min(tree[2 * node + 1])
 }
 
-/// Whether any stamp is no later than the limit, as the least tells.
+/// Whether any last moment is no later than the limit, as the least tells.
 pub fn is_any_due(tree: &[u64], width: usize, limit: u64) -> bool
     requires { IsTree width tree.now }
     ensures { result ≡ is_any_due width tree.now limit }
@@ -62,7 +62,7 @@ pub fn is_any_due(tree: &[u64], width: usize, limit: u64) -> bool
     width != 0 && tree[1] <= limit
 }
 
-/// The nodes of the places whose stamps are no later than the limit. It looks at no other places
+/// The nodes of the places whose last moments are no later than the limit. It looks at no other places
 /// than these and what stands between them and the root. The one error is want of memory.
 pub fn due_nodes(
     alloc: Global,
