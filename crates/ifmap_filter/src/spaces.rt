@@ -52,10 +52,10 @@ fn has_tests(spaces: &[Text], tests: &[Test]) -> bool
 fn has_test(spaces: &[Text], test: &Test) -> bool
     ensures { result ≡ has_each spaces.now (test_spaces test.now) }
 {
-    has_name(spaces, &test.name) && has_brackets(spaces, &test.predicate)
+    has_name_space(spaces, &test.name) && has_brackets(spaces, &test.predicate)
 }
 
-fn has_name(spaces: &[Text], name: &Option<Name>) -> bool
+fn has_name_space(spaces: &[Text], name: &Option<Name>) -> bool
     ensures { result ≡ has_each spaces.now (name_spaces name.now) }
 {
     match name {
