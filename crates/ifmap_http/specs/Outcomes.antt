@@ -1,6 +1,8 @@
 -- What the calls of a wire answer.
-use Rattle.std.specs.Prelude.{◌≡◌, ℕ, ◌≤◌, Bool, true, false, IsTrue, List, length, take, Option, Some}
-use Rattle.std.specs.Io.KnownBytes.{Appends, Keeps}
+use Rattle.std.specs.Prelude.{◌≡◌, ℕ, ◌≤◌, Bool, true, false, IfSome, IsTrue, List, length, take, Option, Some}
+use Rattle.std.specs.Io.KnownBytes.{Appends, Keeps, prepend_known}
+use Rattle.ifmap_io.specs.Causes.{Rose}
+use Rattle.ifmap_input.specs.Inputs.{UsesOneSide}
 use Rattle.ifmap_heads.specs.Answers.{ReadsAnswer, answered, not_http, status as other_status, ended as unanswered}
 use Rattle.ifmap_heads.specs.Limits.{longest_post}
 use Rattle.ifmap_heads.specs.Messages.{is_answer_status}
@@ -11,6 +13,7 @@ use Rattle.ifmap_http.specs.declared.wires.Got.{Got}
 use Rattle.ifmap_http.specs.declared.wires.Got.TheVariants as got
 use Rattle.ifmap_http.specs.declared.wires.Sent.{Sent}
 use Rattle.ifmap_http.specs.declared.wires.Sent.TheVariants as sent
+use Rattle.ifmap_http.specs.Wires.{Wired}
 
 -- a wire that had left begins with what was got, and after a post has left what comes after its body
 abbrev pub GetsPost : List ℕ → Option (List ℕ) → Got → Type 0
@@ -30,6 +33,21 @@ IsAnswerable got.Truncated = Unit {0}
 IsAnswerable (got.Status number) = IsTrue (is_answer_status number)
 IsAnswerable got.ReadFault = Unit {0}
 IsAnswerable got.NoMemory = Unit {0}
+
+-- a post was looked for by reading alone: what was got can be answered, a fault has its cause, and the link's other side is as it was
+pub record GetsByReading {L Side : Type 0} (left : L → Option (List ℕ)) (faults : L → ℕ) (outgoing : L → Side) (old new : L) (result : Got)
+    : Type 0 where
+  pub answerable : IsAnswerable result
+  pub fault : result ≡ got.ReadFault → Rose (faults old) (faults new)
+  pub side : UsesOneSide left faults outgoing old new
+
+-- a wire takes a post by reading alone: it had left what was got, and a post that was taken whole before leaves the link as it is
+pub record TakesPost {L Side : Type 0} (left : L → Option (List ℕ)) (faults : L → ℕ) (outgoing : L → Side) (old new : Wired L)
+    (result : Got) : Type 0 where
+  pub reads : IfSome (prepend_known old.taken (left old.link)) (λ all. GetsPost all (prepend_known new.taken (left new.link)) result)
+  pub by_reading : GetsByReading left faults outgoing old.link new.link result
+  pub quiet : (client body : List ℕ) (close : Bool) (rest : List ℕ) → ReadsPost old.taken (posted client body close rest)
+      → new.link ≡ old.link
 
 -- a post was got
 abbrev pub is_posted : Got → Bool

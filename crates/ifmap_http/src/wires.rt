@@ -1,13 +1,12 @@
 //! Wires: HTTP over a link.
-ghost use Rattle.std.specs.Prelude.{◌≡◌, ◌≤◌, ◌++◌, ℕ, Bool, List, Some, false, [], IfSome, IsFalse, IsTrue, drop, length, not};
+ghost use Rattle.std.specs.Prelude.{◌≡◌, ◌≤◌, ◌++◌, ℕ, List, Some, false, [], IfSome, IsFalse, IsTrue, drop, length, not};
 ghost use Rattle.std.specs.Io.KnownBytes.{prepend_known};
 ghost use Rattle.ifmap_io.specs.Causes.{Rose};
 ghost use Rattle.ifmap_heads.specs.Answers.{sized};
 ghost use Rattle.ifmap_heads.specs.Messages.{answer_bytes, is_answer_status, is_visible, post_bytes};
-ghost use Rattle.ifmap_heads.specs.Posts.{ReadsPost, posted};
 ghost use Rattle.ifmap_heads.specs.Starts.{HasAnswerHead, HasPostHead};
 ghost use Rattle.ifmap_input.specs.Inputs.{UsesOneSide};
-ghost use Rattle.ifmap_http.specs.Outcomes.{GetsAnswer, GetsPost, IsAnswerable, Sends, is_answered, is_posted};
+ghost use Rattle.ifmap_http.specs.Outcomes.{GetsAnswer, GetsByReading, GetsPost, Sends, TakesPost, is_answered, is_posted};
 
 use crate::bodies::{Unread, take_body};
 use crate::heads::{AwaitedAnswer, AwaitedPost, await_answer, await_post};
@@ -129,16 +128,8 @@ impl<L: Link> Wire<L> {
     /// before is handed out with no call of the link.
     pub fn read_post(&mut self, alloc: Global) -> Got
         requires { IsFalse self.old.spent }
-        ensures reads { IfSome (prepend_known self.old.taken (L.left self.old.link))
-            (λ left. GetsPost left (prepend_known self.new.taken (L.left self.new.link)) result) }
-        ensures answerable { IsAnswerable result }
-        ensures fault { result ≡ Got.ReadFault
-            → Rose (L.Source.faults self.old.link) (L.Source.faults self.new.link) }
-        ensures side { UsesOneSide L.left L.Source.faults L.outgoing self.old.link self.new.link }
+        ensures takes { TakesPost L.left L.Source.faults L.outgoing self.old self.new result }
         ensures spent { self.new.spent ≡ not (is_posted result) }
-        ensures quiet { (client body : List ℕ) (close : Bool) (rest : List ℕ)
-            → ReadsPost self.old.taken (posted client body close rest)
-            → self.new.link ≡ self.old.link }
     {
         let got = self.take_post(alloc);
         self.spent = !matches!(got, Got::Posted(_));
@@ -204,15 +195,7 @@ impl<L: Link> Wire<L> {
 
     // Reads a post, whatever the wire is.
     fn take_post(&mut self, alloc: Global) -> Got
-        ensures reads { IfSome (prepend_known self.old.taken (L.left self.old.link))
-            (λ left. GetsPost left (prepend_known self.new.taken (L.left self.new.link)) result) }
-        ensures answerable { IsAnswerable result }
-        ensures fault { result ≡ Got.ReadFault
-            → Rose (L.Source.faults self.old.link) (L.Source.faults self.new.link) }
-        ensures side { UsesOneSide L.left L.Source.faults L.outgoing self.old.link self.new.link }
-        ensures quiet { (client body : List ℕ) (close : Bool) (rest : List ℕ)
-            → ReadsPost self.old.taken (posted client body close rest)
-            → self.new.link ≡ self.old.link }
+        ensures { TakesPost L.left L.Source.faults L.outgoing self.old self.new result }
     {
         match await_post(alloc, &mut self.input, &mut self.link) {
             AwaitedPost::Taken(size, terms) => self.take_posted(alloc, size, terms),
@@ -230,10 +213,8 @@ impl<L: Link> Wire<L> {
         ensures reads { (all : List ℕ) → L.left self.old.link ≡ Some all
             → GetsPost (self.old.taken ++ all) (prepend_known self.new.taken
             (L.left self.new.link)) result }
-        ensures answerable { IsAnswerable result }
-        ensures fault { result ≡ Got.ReadFault
-            → Rose (L.Source.faults self.old.link) (L.Source.faults self.new.link) }
-        ensures side { UsesOneSide L.left L.Source.faults L.outgoing self.old.link self.new.link }
+        ensures by_reading { GetsByReading L.left L.Source.faults L.outgoing self.old.link
+            self.new.link result }
         ensures quiet { terms.size ≤ length (drop size self.old.taken)
             → self.new.link ≡ self.old.link }
     {

@@ -13,13 +13,13 @@ wire_read : (g : given.Over) (c : After-read_post g)
     (wire_seen g.L.Source.left g.L.Sink.held g.L.Source.faults g.L.Sink.faults c.read_post.new.self)
 wire_read g c =
     has_read g.L.Source.left g.L.Sink.held g.L.Source.faults g.L.Sink.faults g.L.Source.outgoing g.met.L.Link.outgoing_is c.args.wire.now
-    c.read_post.new.self c.read_post.ensures.side.apart c.read_post.ensures.side.later
+    c.read_post.new.self c.read_post.ensures.takes.by_reading.side.apart c.read_post.ensures.takes.by_reading.side.later
 
 pub returns-in-Posted-clause-serves : goal.returns-in-Posted-clause-serves
 returns-in-Posted-clause-serves g c =
     round_posted _ _ _ _ _ _ _ _ _ c.in-Posted.post c.close_last_post-post.result c.answer_post.result
     (wire_read g (goal.at.returns-in-Posted-clause-serves g c).After-read_post)
-    c.in-Posted.ensures.reads c.close_last_post-post.ensures c.answer_post.ensures (post_not _ _ _ _ _ c.answer_post.ensures)
+    c.in-Posted.ensures.takes.reads c.close_last_post-post.ensures c.answer_post.ensures (post_not _ _ _ _ _ c.answer_post.ensures)
 
 pub returns-in-Posted-clause-more : goal.returns-in-Posted-clause-more
 returns-in-Posted-clause-more g c =
@@ -34,7 +34,7 @@ returns-in-Status-clause-serves g c =
     let (output, writes, gained) = c.send_bare-sent.ensures.writes in
     round_refused _ _ _ _ _ _ _
     (wire_read g (goal.at.returns-in-Status-clause-serves g c).After-read_post)
-    c.in-Status.status c.send_bare-sent.result _ output c.in-Status.ensures.reads writes gained c.send_bare-sent.ensures.fault
+    c.in-Status.status c.send_bare-sent.result _ output c.in-Status.ensures.takes.reads writes gained c.send_bare-sent.ensures.fault
     c.next_after.ensures
 
 pub returns-in-Status-clause-more : goal.returns-in-Status-clause-more
@@ -45,25 +45,25 @@ returns-in-NoMemory-clause-serves g c =
     let (output, given, gained) = c.give_up.ensures in
     round_wanting _ _ _ _ _ _ _
     (wire_read g (goal.at.returns-in-NoMemory-clause-serves g c).After-read_post)
-    output c.in-NoMemory.ensures.reads given gained
+    output c.in-NoMemory.ensures.takes.reads given gained
 
 pub returns-in-ReadFault-clause-serves : goal.returns-in-ReadFault-clause-serves
 returns-in-ReadFault-clause-serves g c =
     round_unread _ _ _ _ _ _ (wire_read g (goal.at.returns-in-ReadFault-clause-serves g c).After-read_post)
-    c.in-ReadFault.ensures.reads (c.in-ReadFault.ensures.fault refl)
+    c.in-ReadFault.ensures.takes.reads (c.in-ReadFault.ensures.takes.by_reading.fault refl)
 
 pub returns-in-Ended-clause-serves : goal.returns-in-Ended-clause-serves
 returns-in-Ended-clause-serves g c =
-    round_ended _ _ _ _ _ _ (wire_read g (goal.at.returns-in-Ended-clause-serves g c).After-read_post) c.in-Ended.ensures.reads
+    round_ended _ _ _ _ _ _ (wire_read g (goal.at.returns-in-Ended-clause-serves g c).After-read_post) c.in-Ended.ensures.takes.reads
 
 pub returns-in-Truncated-clause-serves : goal.returns-in-Truncated-clause-serves
 returns-in-Truncated-clause-serves g c =
     round_truncated _ _ _ _ _ _ (wire_read g (goal.at.returns-in-Truncated-clause-serves g c).After-read_post)
-    c.in-Truncated.ensures.reads
+    c.in-Truncated.ensures.takes.reads
 
 pub answer_post-requires : goal.answer_post-requires
 answer_post-requires g c =
     record {
       short = subst (λ (p : Post). length p.body ≤ longest_post) (sym c.close_last_post-post.ensures)
-          c.in-Posted.ensures.answerable;
+          c.in-Posted.ensures.takes.by_reading.answerable;
     }

@@ -1,7 +1,6 @@
-use Rattle.std.proofs.Common.{ap}
+use Rattle.ifmap_http.proofs.Gets.{takes_whether_spent}
 use Rattle.ifmap_http.proofs.wires.Wire.read_post.Goals as goal
 
-pub returns-clause-quiet : goal.returns-clause-quiet
-returns-clause-quiet g c = λ client body close rest post.
-    let same = ap (λ wire. wire.link) c.self.view_is in
-    cc (same, c.take_post-got.ensures.quiet client body close rest post)
+pub returns-clause-takes : goal.returns-clause-takes
+returns-clause-takes g c =
+    takes_whether_spent g.L.Source.left g.L.Source.faults g.L.Source.outgoing _ _ _ _ (rw (← c.self.view_is) at c.take_post-got.ensures)

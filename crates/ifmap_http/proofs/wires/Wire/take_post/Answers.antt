@@ -1,45 +1,54 @@
-use Rattle.std.proofs.Common.{ℕ, List, ◌++◌, ◌∙◌, inr}
+use Rattle.std.proofs.Common.{inr, refl}
 use Rattle.ifmap_heads.specs.Posts.{ReadsPost, ended, truncated}
-use Rattle.ifmap_http.specs.Outcomes.{GetsPost}
 use Rattle.ifmap_http.proofs.Bounds.{status_fits}
-use Rattle.ifmap_http.proofs.Gets.{gets_nothing, gets_refused, told_whole}
-use Rattle.ifmap_http.proofs.Reading.{for_told, post_is_there}
+use Rattle.ifmap_http.proofs.Gets.{gets_nothing, gets_refused, takes_awaited, takes_posted, told_whole}
 use Rattle.ifmap_http.proofs.wires.Wire.take_post.Goals as goal
 
-pub returns-in-Taken-clause-reads : goal.returns-in-Taken-clause-reads
-returns-in-Taken-clause-reads g c =
+pub returns-in-Taken : goal.returns-in-Taken
+returns-in-Taken g c =
     rw (← c.self.view_is)
-    (for_told (λ (left : List ℕ). GetsPost left _ c.take_posted.result) _ _ _ _ c.in-Taken.ensures.taken c.take_posted.ensures.reads)
+    (takes_posted g.L.Source.left g.L.Source.faults g.L.Source.outgoing _ _ _ _ c.in-Taken.size c.in-Taken.terms c.take_posted.result
+    c.in-Taken.ensures.is c.in-Taken.ensures.taken c.in-Taken.ensures.side c.in-Taken.ensures.quiet
+    c.take_posted.ensures.reads c.take_posted.ensures.by_reading c.take_posted.ensures.quiet)
 
-pub returns-in-Refused-clause-reads : goal.returns-in-Refused-clause-reads
-returns-in-Refused-clause-reads g c =
-    rw (← c.self.view_is) (gets_refused c.in-Refused.status _ _ _ _ c.in-Refused.ensures.taken c.in-Refused.ensures.is)
-
-pub returns-in-Ended-clause-reads : goal.returns-in-Ended-clause-reads
-returns-in-Ended-clause-reads g c =
-    rw (← c.self.view_is) (told_whole (λ xs. ReadsPost xs ended) _ _ _ _ c.in-Ended.ensures.taken (inr c.in-Ended.ensures.is))
-
-pub returns-in-Truncated-clause-reads : goal.returns-in-Truncated-clause-reads
-returns-in-Truncated-clause-reads g c =
-    rw (← c.self.view_is) (told_whole (λ xs. ReadsPost xs truncated) _ _ _ _ c.in-Truncated.ensures.taken (inr c.in-Truncated.ensures.is))
-
-pub returns-in-ReadFault-clause-reads : goal.returns-in-ReadFault-clause-reads
-returns-in-ReadFault-clause-reads g c = gets_nothing _
-
-pub returns-in-NoMemory-clause-reads : goal.returns-in-NoMemory-clause-reads
-returns-in-NoMemory-clause-reads g c = gets_nothing _
-
-pub returns-in-Taken-clause-quiet : goal.returns-in-Taken-clause-quiet
-returns-in-Taken-clause-quiet g c =
+pub returns-in-Refused : goal.returns-in-Refused
+returns-in-Refused g c =
     rw (← c.self.view_is)
-    (λ client body close rest post.
-    let (head, is, says) = post in
-    let quiet = c.in-Taken.ensures.quiet head (body ++ rest) is in
-    c.take_posted.ensures.quiet
-    (post_is_there c.self.inside.input c.await_post.new.input c.in-Taken.size c.in-Taken.terms head client body close rest
-    quiet.1 c.in-Taken.ensures.is is says)
-    ∙ quiet.0)
+    (takes_awaited g.L.Source.left g.L.Source.faults g.L.Source.outgoing _ _ _
+    (gets_refused c.in-Refused.status _ _ _ _ c.in-Refused.ensures.taken c.in-Refused.ensures.is)
+    (record {
+      answerable = status_fits c.in-Refused.status c.await_post.new.input (g.L.Source.left c.await_post.new.source) c.in-Refused.ensures.is;
+      fault = λ e. cc;
+      side = c.in-Refused.ensures.side;
+    })
+    c.in-Refused.ensures.quiet)
 
-pub returns-in-Refused-clause-answerable : goal.returns-in-Refused-clause-answerable
-returns-in-Refused-clause-answerable g c =
-    status_fits c.in-Refused.status c.await_post.new.input (g.L.Source.left c.await_post.new.source) c.in-Refused.ensures.is
+pub returns-in-Ended : goal.returns-in-Ended
+returns-in-Ended g c =
+    rw (← c.self.view_is)
+    (takes_awaited g.L.Source.left g.L.Source.faults g.L.Source.outgoing _ _ _
+    (told_whole (λ xs. ReadsPost xs ended) _ _ _ _ c.in-Ended.ensures.taken (inr c.in-Ended.ensures.is))
+    (record { answerable = tt; fault = λ e. cc; side = c.in-Ended.ensures.side })
+    c.in-Ended.ensures.quiet)
+
+pub returns-in-Truncated : goal.returns-in-Truncated
+returns-in-Truncated g c =
+    rw (← c.self.view_is)
+    (takes_awaited g.L.Source.left g.L.Source.faults g.L.Source.outgoing _ _ _
+    (told_whole (λ xs. ReadsPost xs truncated) _ _ _ _ c.in-Truncated.ensures.taken (inr c.in-Truncated.ensures.is))
+    (record { answerable = tt; fault = λ e. cc; side = c.in-Truncated.ensures.side })
+    c.in-Truncated.ensures.quiet)
+
+pub returns-in-ReadFault : goal.returns-in-ReadFault
+returns-in-ReadFault g c =
+    rw (← c.self.view_is)
+    (takes_awaited g.L.Source.left g.L.Source.faults g.L.Source.outgoing _ _ _ (gets_nothing _)
+    (record { answerable = tt; fault = λ e. c.in-ReadFault.ensures.fault refl; side = c.in-ReadFault.ensures.side })
+    c.in-ReadFault.ensures.quiet)
+
+pub returns-in-NoMemory : goal.returns-in-NoMemory
+returns-in-NoMemory g c =
+    rw (← c.self.view_is)
+    (takes_awaited g.L.Source.left g.L.Source.faults g.L.Source.outgoing _ _ _ (gets_nothing _)
+    (record { answerable = tt; fault = λ e. cc; side = c.in-NoMemory.ensures.side })
+    c.in-NoMemory.ensures.quiet)

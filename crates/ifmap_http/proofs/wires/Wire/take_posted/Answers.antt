@@ -16,7 +16,12 @@ returns-in-Err-Truncated-clause-reads g c =
     post_lacks c.self.inside.input c.args.size c.args.terms _ _ all
     (rw (← c.self.view_is) at c.requires) told (rw c.advance.ensures at (c.in-Err-Truncated.ensures.truncated (cc))))
 
-pub returns-in-Ok-clause-answerable : goal.returns-in-Ok-clause-answerable
-returns-in-Ok-clause-answerable g c =
-    body_fits c.requires.head c.args.terms.client c.args.terms.size c.args.terms.close c.in-Ok.body.items c.requires.says
-    c.in-Ok.ensures.size
+pub returns-in-Ok-clause-by_reading : goal.returns-in-Ok-clause-by_reading
+returns-in-Ok-clause-by_reading g c =
+    rw (← c.self.view_is)
+    (record {
+      answerable = body_fits c.requires.head c.args.terms.client c.args.terms.size c.args.terms.close c.in-Ok.body.items
+          c.requires.says c.in-Ok.ensures.size;
+      fault = λ e. cc;
+      side = c.in-Ok.ensures.side;
+    })
