@@ -13,6 +13,7 @@ use Rattle.ifmap_forms.specs.Answers.{IsChecked, IsCheckedAs, IsCheckRefusal}
 use Rattle.ifmap_forms.specs.Checks.{Check, check_then, need, pass}
 use Rattle.ifmap_forms.specs.Scopes.{Scopes}
 use Rattle.ifmap_forms.specs.Tables.{Both, ElementForm, AttributeTable, table_with, both, form_check, no_attributes, element_parts}
+use Rattle.ifmap_forms.specs.Tables.{read_form}
 use Rattle.ifmap_forms.specs.Values.{Field, field_check}
 
 module _ {X Y : Type 0} (first : Check X) (second : X → Check Y) where
@@ -90,28 +91,57 @@ module _ {X Y : Type 0} (field : Field X) (table : AttributeTable Y) (scope : Sc
   refused_beside x (Named code) f g = inr (x, f, inl g)
   refused_beside x NoMemory f g = tt
 
--- ---- a form
+-- ---- a form that is read, before something is made of it
 
-module _ {X A C : Type 0} (form : ElementForm A C) (make : A → C → X) (scopes : Scopes) (e : Element) where
-  abbrev only : Bool
-  only = has_only (form.passed_over ++ form.attributes.locals) e
+-- the element has no attribute but those of the form
+abbrev no_others : {A C : Type 0} → ElementForm A C → Element → Bool
+no_others form e = has_only (form.passed_over ++ form.attributes.locals) e
 
-  pub refused_at_attributes : (error : FormError) → IsCheckRefusal (form.attributes.reads (scopes []) e) error
-      → IsCheckRefusal (form_check form make scopes e) error
-  refused_at_attributes (Named code) f = inl (inl f)
-  refused_at_attributes NoMemory f = tt
+module _ {A C : Type 0} (form : ElementForm A C) (scopes : Scopes) (e : Element) where
+  pub read_refused_at_attributes : (error : FormError) → IsCheckRefusal (form.attributes.reads (scopes []) e) error
+      → IsCheckRefusal (read_form form scopes e) error
+  read_refused_at_attributes (Named code) f = inl f
+  read_refused_at_attributes NoMemory f = tt
 
   module _ (a : A) (f : form.attributes.reads (scopes []) e (Ok a)) where
     abbrev inside : Check (Both A C)
     inside = check_then (form.content scopes (element_parts e)) (λ c. pass (both a c))
 
-    pub refused_at_others : only ≡ false → form_check form make scopes e (Err Failure)
-    refused_at_others is = inl (inr (a, f, refused_test inside only Failure is))
+    pub read_refused_at_others : no_others form e ≡ false → read_form form scopes e (Err Failure)
+    read_refused_at_others is = inr (a, f, refused_test inside (no_others form e) Failure is)
 
-    pub refused_at_content : (error : FormError) → only ≡ true → IsCheckRefusal (form.content scopes (element_parts e)) error
-        → IsCheckRefusal (form_check form make scopes e) error
-    refused_at_content (Named code) is g = inl (inr (a, f, found_after inside only Failure (Err code) is (inl g)))
-    refused_at_content NoMemory is g = tt
+    pub read_refused_at_content : (error : FormError) → no_others form e ≡ true
+        → IsCheckRefusal (form.content scopes (element_parts e)) error → IsCheckRefusal (read_form form scopes e) error
+    read_refused_at_content (Named code) is g = inr (a, f, found_after inside (no_others form e) Failure (Err code) is (inl g))
+    read_refused_at_content NoMemory is g = tt
 
-    pub found_form : (c : C) → only ≡ true → form.content scopes (element_parts e) (Ok c) → form_check form make scopes e (Ok (make a c))
-    found_form c is g = (both a c, (a, f, found_after inside only Failure (Ok (both a c)) is (c, g, refl)), refl)
+    pub read_whole : (c : C) → no_others form e ≡ true → form.content scopes (element_parts e) (Ok c)
+        → read_form form scopes e (Ok (both a c))
+    read_whole c is g = (a, f, found_after inside (no_others form e) Failure (Ok (both a c)) is (c, g, refl))
+
+-- ---- a form, and what is made of it
+
+module _ {X A C : Type 0} (form : ElementForm A C) (make : A → C → X) (scopes : Scopes) (e : Element) where
+  pub made_as_read : (a : A) (c : C) → read_form form scopes e (Ok (both a c)) → form_check form make scopes e (Ok (make a c))
+  made_as_read a c f = (both a c, f, refl)
+
+  pub refused_as_read : (error : FormError) → IsCheckRefusal (read_form form scopes e) error
+      → IsCheckRefusal (form_check form make scopes e) error
+  refused_as_read (Named code) f = inl f
+  refused_as_read NoMemory f = tt
+
+  pub refused_at_attributes : (error : FormError) → IsCheckRefusal (form.attributes.reads (scopes []) e) error
+      → IsCheckRefusal (form_check form make scopes e) error
+  refused_at_attributes error f = refused_as_read error (read_refused_at_attributes form scopes e error f)
+
+  module _ (a : A) (f : form.attributes.reads (scopes []) e (Ok a)) where
+    pub refused_at_others : no_others form e ≡ false → form_check form make scopes e (Err Failure)
+    refused_at_others is = refused_as_read (Named Failure) (read_refused_at_others form scopes e a f is)
+
+    pub refused_at_content : (error : FormError) → no_others form e ≡ true
+        → IsCheckRefusal (form.content scopes (element_parts e)) error → IsCheckRefusal (form_check form make scopes e) error
+    refused_at_content error is g = refused_as_read error (read_refused_at_content form scopes e a f error is g)
+
+    pub found_form : (c : C) → no_others form e ≡ true → form.content scopes (element_parts e) (Ok c)
+        → form_check form make scopes e (Ok (make a c))
+    found_form c is g = made_as_read a c (read_whole form scopes e a f c is g)

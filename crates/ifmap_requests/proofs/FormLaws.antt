@@ -3,7 +3,6 @@
 -- 2. Searches with a text before their attributes.
 -- 3. The attributes of a search, each with those before it (`refused_links` to `all_bounds`).
 -- 4. A search, after its attributes.
--- 5. A form that is read, before something is made of it.
 use Rattle.std.proofs.Common.{◌≡◌, ℕ, ◌++◌, Bool, true, false, List, [], ◌∷◌, Option, Result, Ok, Err, inl, inr, refl, ap, subst}
 use Rattle.std.proofs.Common.{sym}
 use Rattle.std.specs.Result.{IsErrAnd}
@@ -27,7 +26,7 @@ use Rattle.ifmap_forms.specs.Checks.{Check, check_if, check_then, need, pass}
 use Rattle.ifmap_forms.specs.Items.{start_check, start_content}
 use Rattle.ifmap_forms.specs.Scopes.{Scopes}
 use Rattle.ifmap_forms.specs.Tables.{Both, ElementForm, table_with, both, form_check, form_or, no_attributes}
-use Rattle.ifmap_forms.specs.Tables.{element_parts, read_form}
+use Rattle.ifmap_forms.specs.Tables.{element_parts}
 use Rattle.ifmap_forms.specs.Values.{Field, depth_field, field_check, kinds_field, size_field}
 use Rattle.ifmap_requests.specs.declared.searching.Bounds.{Bounds}
 use Rattle.ifmap_requests.specs.RequestForms.{SearchValues, after_depth, after_links, after_size, links_field, result_field}
@@ -204,39 +203,3 @@ module _ (allowed : List (List ℕ)) (scope : Scope) (e : Element) where
       a,
       found_after from_bounds (has_only allowed e) Failure (Ok (search_from start (values_of bounds))) is (start, f, refl),
     )
-
--- ---- 5. a form that is read, before something is made of it
-
-module _ {A C : Type 0} (form : ElementForm A C) (scopes : Scopes) (e : Element) where
-  abbrev only : Bool
-  only = has_only (form.passed_over ++ form.attributes.locals) e
-
-  pub read_no_attributes : (error : FormError) → IsCheckRefusal (form.attributes.reads (scopes []) e) error
-      → IsCheckRefusal (read_form form scopes e) error
-  read_no_attributes (Named code) f = inl f
-  read_no_attributes NoMemory f = tt
-
-  module _ (a : A) (f : form.attributes.reads (scopes []) e (Ok a)) where
-    abbrev children_of : Check (Both A C)
-    children_of = check_then (form.content scopes (element_parts e)) (λ c. pass (both a c))
-
-    pub read_others : only ≡ false → read_form form scopes e (Err Failure)
-    read_others is = inr (a, f, refused_test children_of only Failure is)
-
-    pub read_no_content : (error : FormError) → only ≡ true → IsCheckRefusal (form.content scopes (element_parts e)) error
-        → IsCheckRefusal (read_form form scopes e) error
-    read_no_content (Named code) is g = inr (a, f, found_after children_of only Failure (Err code) is (inl g))
-    read_no_content NoMemory is g = tt
-
-    pub read_whole : (c : C) → only ≡ true → form.content scopes (element_parts e) (Ok c) → read_form form scopes e (Ok (both a c))
-    read_whole c is g = (a, f, found_after children_of only Failure (Ok (both a c)) is (c, g, refl))
-
--- what is made of a form that is read
-module _ {X A C : Type 0} (form : ElementForm A C) (make : A → C → X) (scopes : Scopes) (e : Element) where
-  pub made_of_form : (a : A) (c : C) → read_form form scopes e (Ok (both a c)) → form_check form make scopes e (Ok (make a c))
-  made_of_form a c f = (both a c, f, refl)
-
-  pub refused_form : (error : FormError) → IsCheckRefusal (read_form form scopes e) error → IsCheckRefusal (form_check form make scopes e)
-      error
-  refused_form (Named code) f = inl f
-  refused_form NoMemory f = tt

@@ -2,13 +2,13 @@ use Rattle.std.proofs.Common.{[], ◌∙◌, List, Ok, false, subst, sym, true}
 use Rattle.ifmap_elem.specs.declared.elements.Child.{Child}
 use Rattle.ifmap_ident.specs.declared.codes.Code.TheVariants.{Failure}
 use Rattle.ifmap_forms.specs.declared.errors.FormError.TheVariants.{Named}
-use Rattle.ifmap_forms.specs.AnswerLaws.{found_alone, refused_alone, refused_exit}
+use Rattle.ifmap_forms.specs.AnswerLaws.{found_alone, made_as_read, read_refused_at_attributes, read_refused_at_content}
+use Rattle.ifmap_forms.specs.AnswerLaws.{read_refused_at_others, read_whole, refused_alone, refused_as_read, refused_exit}
 use Rattle.ifmap_forms.specs.Answers.{IsCheckRefusal}
 use Rattle.ifmap_forms.specs.Scopes.{scopes_by}
 use Rattle.ifmap_forms.specs.Tables.{both, form_check, list_of, parts_in}
 use Rattle.ifmap_forms.specs.Values.{session_field}
 use Rattle.ifmap_requests.specs.RequestForms.{publish_form, publish_of, publish_op_check}
-use Rattle.ifmap_requests.proofs.FormLaws.{made_of_form, read_no_attributes, read_no_content, read_others, read_whole, refused_form}
 use Rattle.ifmap_requests.proofs.asking.read_publish.Goals as goal
 
 pub returns-in_err-session : goal.returns-in_err-session
@@ -17,15 +17,15 @@ returns-in_err-session c =
     let e = c.args.element in
     let error = c.in_err-session.field-0.0 in
     refused_exit (form_check publish_form publish_of scopes e) c.from_residual.result error c.from_residual.ensures.1
-    (refused_form publish_form publish_of scopes e error
-    (read_no_attributes publish_form scopes e error (refused_alone session_field (scopes []) e error c.in_err-session.ensures)))
+    (refused_as_read publish_form publish_of scopes e error
+    (read_refused_at_attributes publish_form scopes e error (refused_alone session_field (scopes []) e error c.in_err-session.ensures)))
 
 pub returns-then-not-has_only : goal.returns-then-not-has_only
 returns-then-not-has_only c =
     let scopes = scopes_by c.args.place.now.declared.now c.args.place.now.path.now in
     let e = c.args.element in
-    refused_form publish_form publish_of scopes e (Named Failure)
-    (read_others publish_form scopes e (both c.in_ok-session.session tt)
+    refused_as_read publish_form publish_of scopes e (Named Failure)
+    (read_refused_at_others publish_form scopes e (both c.in_ok-session.session tt)
     (found_alone session_field (scopes []) e c.in_ok-session.session c.in_ok-session.ensures)
     (sym c.has_only.ensures ∙ c.if-not-has_only.true))
 
@@ -35,8 +35,8 @@ returns-in_err-ops c =
     let e = c.args.element in
     let error = c.in_err-ops.field-0.0 in
     refused_exit (form_check publish_form publish_of scopes e) c.from_residual-in_err-ops.result error c.from_residual-in_err-ops.ensures.1
-    (refused_form publish_form publish_of scopes e error
-    (read_no_content publish_form scopes e (both c.in_ok-session.session tt)
+    (refused_as_read publish_form publish_of scopes e error
+    (read_refused_at_content publish_form scopes e (both c.in_ok-session.session tt)
     (found_alone session_field (scopes []) e c.in_ok-session.session c.in_ok-session.ensures) error
     (sym c.has_only.ensures ∙ c.if-not-has_only.false)
     (subst (λ (cs : List Child). IsCheckRefusal (list_of publish_op_check scopes (parts_in cs)) error) c.children.view_is
@@ -46,7 +46,7 @@ pub returns : goal.returns
 returns c =
     let scopes = scopes_by c.args.place.now.declared.now c.args.place.now.path.now in
     let e = c.args.element in
-    made_of_form publish_form publish_of scopes e (both c.in_ok-session.session tt) c.in_ok-ops.ops
+    made_as_read publish_form publish_of scopes e (both c.in_ok-session.session tt) c.in_ok-ops.ops
     (read_whole publish_form scopes e (both c.in_ok-session.session tt)
     (found_alone session_field (scopes []) e c.in_ok-session.session c.in_ok-session.ensures) c.in_ok-ops.ops
     (sym c.has_only.ensures ∙ c.if-not-has_only.false)

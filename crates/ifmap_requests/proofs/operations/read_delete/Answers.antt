@@ -4,14 +4,14 @@ use Rattle.ifmap_ident.specs.Parts.{value_of}
 use Rattle.ifmap_ident.specs.declared.codes.Code.TheVariants.{Failure}
 use Rattle.ifmap_ident.specs.ifmap_reader.declared.scoping.Scope.{Scope}
 use Rattle.ifmap_forms.specs.declared.errors.FormError.TheVariants.{Named}
-use Rattle.ifmap_forms.specs.AnswerLaws.{found_alone, refused_alone, refused_exit}
+use Rattle.ifmap_forms.specs.AnswerLaws.{found_alone, made_as_read, read_refused_at_attributes, read_refused_at_content}
+use Rattle.ifmap_forms.specs.AnswerLaws.{read_refused_at_others, read_whole, refused_alone, refused_as_read, refused_exit}
 use Rattle.ifmap_forms.specs.Answers.{IsCheckRefusal}
 use Rattle.ifmap_forms.specs.Items.{item_check}
 use Rattle.ifmap_forms.specs.Scopes.{place_scopes}
 use Rattle.ifmap_forms.specs.Tables.{both, form_check, parts_in}
 use Rattle.ifmap_forms.specs.Values.{filter_field, read_filter}
 use Rattle.ifmap_requests.specs.RequestForms.{delete_form, delete_from_form}
-use Rattle.ifmap_requests.proofs.FormLaws.{made_of_form, read_no_attributes, read_no_content, read_others, read_whole, refused_form}
 use Rattle.ifmap_requests.proofs.PlaceLaws.{here}
 use Rattle.ifmap_requests.proofs.operations.read_delete.Goals as goal
 
@@ -21,8 +21,8 @@ returns-in_err-filter c =
     let e = c.args.element.now in
     let error = c.in_err-filter.field-0.0 in
     refused_exit (form_check delete_form delete_from_form scopes e) c.from_residual.result error c.from_residual.ensures.1
-    (refused_form delete_form delete_from_form scopes e error
-    (read_no_attributes delete_form scopes e error
+    (refused_as_read delete_form delete_from_form scopes e error
+    (read_refused_at_attributes delete_form scopes e error
     (refused_alone (filter_field (codes "filter")) (scopes []) e error
     (subst (λ (scope : Scope). IsCheckRefusal (read_filter scope (value_of (codes "filter") e)) error)
     (here c.args.place.now.declared.now c.args.place.now.path.now c.args.place.now.child) c.in_err-filter.ensures))))
@@ -31,8 +31,8 @@ pub returns-then-not-has_only : goal.returns-then-not-has_only
 returns-then-not-has_only c =
     let scopes = place_scopes c.args.place.now.declared.now c.args.place.now.path.now c.args.place.now.child in
     let e = c.args.element.now in
-    refused_form delete_form delete_from_form scopes e (Named Failure)
-    (read_others delete_form scopes e (both c.in_ok-filter.filter tt)
+    refused_as_read delete_form delete_from_form scopes e (Named Failure)
+    (read_refused_at_others delete_form scopes e (both c.in_ok-filter.filter tt)
     (found_alone (filter_field (codes "filter")) (scopes []) e c.in_ok-filter.filter
     (subst (λ (scope : Scope). read_filter scope (value_of (codes "filter") e) (Ok c.in_ok-filter.filter))
     (here c.args.place.now.declared.now c.args.place.now.path.now c.args.place.now.child) c.in_ok-filter.ensures))
@@ -45,8 +45,8 @@ returns-in_err-item c =
     let error = c.in_err-item.field-0.0 in
     refused_exit (form_check delete_form delete_from_form scopes e) c.from_residual-in_err-item.result error
     c.from_residual-in_err-item.ensures.1
-    (refused_form delete_form delete_from_form scopes e error
-    (read_no_content delete_form scopes e (both c.in_ok-filter.filter tt)
+    (refused_as_read delete_form delete_from_form scopes e error
+    (read_refused_at_content delete_form scopes e (both c.in_ok-filter.filter tt)
     (found_alone (filter_field (codes "filter")) (scopes []) e c.in_ok-filter.filter
     (subst (λ (scope : Scope). read_filter scope (value_of (codes "filter") e) (Ok c.in_ok-filter.filter))
     (here c.args.place.now.declared.now c.args.place.now.path.now c.args.place.now.child) c.in_ok-filter.ensures)) error
@@ -57,7 +57,7 @@ pub returns : goal.returns
 returns c =
     let scopes = place_scopes c.args.place.now.declared.now c.args.place.now.path.now c.args.place.now.child in
     let e = c.args.element.now in
-    made_of_form delete_form delete_from_form scopes e (both c.in_ok-filter.filter tt) c.in_ok-item.item
+    made_as_read delete_form delete_from_form scopes e (both c.in_ok-filter.filter tt) c.in_ok-item.item
     (read_whole delete_form scopes e (both c.in_ok-filter.filter tt)
     (found_alone (filter_field (codes "filter")) (scopes []) e c.in_ok-filter.filter
     (subst (λ (scope : Scope). read_filter scope (value_of (codes "filter") e) (Ok c.in_ok-filter.filter))

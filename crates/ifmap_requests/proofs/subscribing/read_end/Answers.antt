@@ -3,13 +3,12 @@ use Rattle.std.specs.List.{list_all}
 use Rattle.ifmap_elem.specs.declared.elements.Child.{Child}
 use Rattle.ifmap_ident.specs.declared.codes.Code.TheVariants.{Failure}
 use Rattle.ifmap_forms.specs.declared.errors.FormError.TheVariants.{Named}
-use Rattle.ifmap_forms.specs.AnswerLaws.{found_alone, refused_alone, refused_exit}
+use Rattle.ifmap_forms.specs.AnswerLaws.{found_alone, made_as_read, read_refused_at_attributes, read_refused_at_content}
+use Rattle.ifmap_forms.specs.AnswerLaws.{read_refused_at_others, read_whole, refused_alone, refused_as_read, refused_exit}
 use Rattle.ifmap_elem.specs.WhiteSpace.{is_blank_part}
 use Rattle.ifmap_forms.specs.Tables.{both, form_check, parts_in}
 use Rattle.ifmap_forms.specs.Values.{name_field}
 use Rattle.ifmap_requests.specs.RequestForms.{end_form, end_from_form}
-use Rattle.ifmap_requests.proofs.FormLaws.{made_of_form, read_no_attributes, read_no_content, read_others}
-use Rattle.ifmap_requests.proofs.FormLaws.{read_whole, refused_form}
 use Rattle.ifmap_requests.proofs.subscribing.read_end.Goals as goal
 use Rattle.ifmap_forms.specs.FormLaws.{blank_children, other_children}
 
@@ -18,22 +17,22 @@ returns-in_err-name c = λ scopes.
     let e = c.args.element.now in
     let error = c.in_err-name.field-0.0 in
     refused_exit (form_check end_form end_from_form scopes e) c.from_residual.result error c.from_residual.ensures.1
-    (refused_form end_form end_from_form scopes e error
-    (read_no_attributes end_form scopes e error (refused_alone name_field (scopes []) e error c.in_err-name.ensures)))
+    (refused_as_read end_form end_from_form scopes e error
+    (read_refused_at_attributes end_form scopes e error (refused_alone name_field (scopes []) e error c.in_err-name.ensures)))
 
 pub returns-then-not-has_only : goal.returns-then-not-has_only
 returns-then-not-has_only c = λ scopes.
     let e = c.args.element.now in
-    (refused_form end_form end_from_form scopes e (Named Failure)
-    (read_others end_form scopes e (both c.in_ok-name.name tt)
+    (refused_as_read end_form end_from_form scopes e (Named Failure)
+    (read_refused_at_others end_form scopes e (both c.in_ok-name.name tt)
     (found_alone name_field (scopes []) e c.in_ok-name.name c.in_ok-name.ensures)
     (sym c.has_only.ensures ∙ c.if-not-has_only.true)))
 
 pub returns-then-not-are_blank : goal.returns-then-not-are_blank
 returns-then-not-are_blank c = λ scopes.
     let e = c.args.element.now in
-    (refused_form end_form end_from_form scopes e (Named Failure)
-    (read_no_content end_form scopes e (both c.in_ok-name.name tt)
+    (refused_as_read end_form end_from_form scopes e (Named Failure)
+    (read_refused_at_content end_form scopes e (both c.in_ok-name.name tt)
     (found_alone name_field (scopes []) e c.in_ok-name.name c.in_ok-name.ensures) (Named Failure)
     (sym c.has_only.ensures ∙ c.if-not-has_only.false)
     (other_children scopes e (ap (λ (cs : List Child). list_all is_blank_part (parts_in cs)) (sym c.as_slice.ensures)
@@ -42,7 +41,7 @@ returns-then-not-are_blank c = λ scopes.
 pub returns : goal.returns
 returns c = λ scopes.
     let e = c.args.element.now in
-    made_of_form end_form end_from_form scopes e (both c.in_ok-name.name tt) tt
+    made_as_read end_form end_from_form scopes e (both c.in_ok-name.name tt) tt
     (read_whole end_form scopes e (both c.in_ok-name.name tt)
     (found_alone name_field (scopes []) e c.in_ok-name.name c.in_ok-name.ensures) tt
     (sym c.has_only.ensures ∙ c.if-not-has_only.false)
