@@ -11,9 +11,9 @@ use crate::ops::{Deed, Op};
 use crate::sought::{Sought, search_of};
 use crate::stepping::{Step, World, begin_world, notes_of, step_by, take_over};
 use ifmap_delta::{Moved, Subscription};
-use ifmap_fresh_tests::places::Place;
+use ifmap_fresh_tests::places::{Place, place_of};
 use ifmap_graph::Graph;
-use ifmap_ident::{Identifier, Item, Kind};
+use ifmap_ident::Kind;
 use ifmap_plans::Plan;
 use ifmap_publish_tests::reading::text_of;
 use ifmap_search::Entry;
@@ -30,20 +30,6 @@ struct Example {
     deleted: &'static str,
     updated: &'static str,
     notified: &'static str,
-}
-
-fn last_of(id: &Identifier) -> u8 {
-    match id {
-        Identifier::MacAddress { value, .. } => value[5],
-        _ => 0,
-    }
-}
-
-fn place_of(alloc: Global, item: &Item) -> Result<String, NoMemory> {
-    match item {
-        Item::One(a) => format!(in alloc; "{}", last_of(a)),
-        Item::Pair(a, b) => format!(in alloc; "{}-{}", last_of(a), last_of(b)),
-    }
 }
 
 fn push_entry(alloc: Global, out: &mut String, entry: &Entry) -> Result<(), NoMemory> {

@@ -49,3 +49,19 @@ pub fn addresses(alloc: Global, count: u8) -> Result<Vec<Identifier>, NoMemory>
     }
     Ok(names)
 }
+
+// The last byte of an address.
+fn last_of(id: &Identifier) -> u8 {
+    match id {
+        Identifier::MacAddress { value, .. } => value[5],
+        _ => 0,
+    }
+}
+
+/// The place of an item, as text: the last bytes of its addresses.
+pub fn place_of(alloc: Global, item: &Item) -> Result<String, NoMemory> {
+    match item {
+        Item::One(a) => format!(in alloc; "{}", last_of(a)),
+        Item::Pair(a, b) => format!(in alloc; "{}-{}", last_of(a), last_of(b)),
+    }
+}

@@ -4,11 +4,11 @@ ghost use Rattle.ifmap_ident.specs.Canon.{IsIdentifier};
 
 use crate::lists::Lists;
 use crate::makers::{Spot, filter_in, lists_of, search_from, search_with};
-use crate::places::Place;
+use crate::places::{Place, place_of};
 use ifmap_elem::Many;
 use ifmap_filter::Filter;
 use ifmap_fresh::fresh;
-use ifmap_ident::{Identifier, Item, Kind};
+use ifmap_ident::Kind;
 use ifmap_search::{Entry, Found, Search, SearchError};
 use ifmap_steps::Steps;
 use std::alloc::{AllocError as NoMemory, Global};
@@ -34,20 +34,6 @@ fn find(alloc: Global, lists: &Lists, search: &Search) -> Result<Found, SearchEr
     requires { IsIdentifier search.now.start }
 {
     find_with::<Brand>(alloc, lists, search, Blank::new(1))
-}
-
-fn last_of(id: &Identifier) -> u8 {
-    match id {
-        Identifier::MacAddress { value, .. } => value[5],
-        _ => 0,
-    }
-}
-
-fn place_of(alloc: Global, item: &Item) -> Result<String, NoMemory> {
-    match item {
-        Item::One(a) => format!(in alloc; "{}", last_of(a)),
-        Item::Pair(a, b) => format!(in alloc; "{}-{}", last_of(a), last_of(b)),
-    }
 }
 
 fn push_entry(alloc: Global, out: &mut String, entry: &Entry) -> Result<(), NoMemory> {

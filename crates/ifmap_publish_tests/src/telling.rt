@@ -1,25 +1,11 @@
 //! Plans as texts.
 use crate::reading::{text_of, value_of};
 use ifmap_elem::{Element, Many};
-use ifmap_ident::{Identifier, Item};
+use ifmap_fresh_tests::places::place_of;
 use ifmap_meta::Life;
 use ifmap_plans::{ItemChange, Note, Plan};
 use ifmap_view::Row;
 use std::alloc::{AllocError as NoMemory, Global};
-
-fn last_of(id: &Identifier) -> u8 {
-    match id {
-        Identifier::MacAddress { value, .. } => value[5],
-        _ => 0,
-    }
-}
-
-fn place_of(alloc: Global, item: &Item) -> Result<String, NoMemory> {
-    match item {
-        Item::One(a) => format!(in alloc; "{}", last_of(a)),
-        Item::Pair(a, b) => format!(in alloc; "{}-{}", last_of(a), last_of(b)),
-    }
-}
 
 // The local name, the text and the moment of an element.
 fn element_text(alloc: Global, element: &Element) -> Result<String, NoMemory> {
