@@ -5,8 +5,10 @@ use Rattle.std.proofs.lemmas.Cmp.{tied_itself}
 use Rattle.std.specs.List.{AllByRecursion}
 use Rattle.std.specs.Ordering.{is_eq, is_lt, ordering_then}
 use Rattle.std.specs.declared.cmp.Ordering.TheVariants.{Less}
+use Rattle.ifmap_lemmas.specs.Filters.{all_weaker}
 use Rattle.ifmap_lemmas.specs.Members.{all_of_test, both_all, map_of_all, all_any}
 use Rattle.ifmap_lemmas.specs.Orderings.{is_less}
+use Rattle.ifmap_lemmas.specs.Rising.{to_distinct, to_sorted}
 use Rattle.ifmap_ident.specs.Items.{IsCanonItem, item_order, items_tie, same_item}
 use Rattle.ifmap_meta.specs.declared.stored.Stored.{Stored}
 use Rattle.ifmap_meta.specs.Keys.{same_key, same_type}
@@ -15,7 +17,7 @@ use Rattle.ifmap_view.specs.Attachments.{IsGraph, attachment_order, of_one_key, 
 use Rattle.ifmap_fresh_tests.specs.declared.shelves.Shelf.{Shelf}
 use Rattle.ifmap_fresh_tests.specs.Lists.{all_pairs, are_lists, item_below, row_below, attachment_on, rows_on_shelves}
 use Rattle.ifmap_ident.specs.SameLaws.{items_total}
-use Rattle.ifmap_fresh_tests.proofs.Pairs.{all_turned, pairs_of, pairwise_turned, to_distinct, to_sorted}
+use Rattle.ifmap_fresh_tests.proofs.Pairs.{pairs_of, pairwise_turned}
 use Rattle.ifmap_lemmas.specs.Pairwise.{Pairwise, pairwise_onto, pairwise_both}
 
 all_rows : (Q : Attachment → Type 0) (P : Shelf → Type 0) → ((s : Shelf) (x : Stored) → P s → Q (attachment_on s.item x))
@@ -56,8 +58,8 @@ on_shelf : (P : Attachment → Attachment → Type 0) → ((s : Shelf) (x y : St
     → (ss : List Shelf) → AllByRecursion (λ s. all_pairs row_below s.rows.items ≡ true) ss
     → AllByRecursion (λ s. Pairwise P (map (attachment_on s.item) s.rows.items)) ss
 on_shelf P f ss a =
-    all_turned (λ s. all_pairs row_below s.rows.items ≡ true) (λ s. Pairwise P (map (attachment_on s.item) s.rows.items)) ss
-    (λ s e. pairwise_onto (λ x y. row_below x y ≡ true) P (attachment_on s.item) s.rows.items (f s) (pairs_of row_below s.rows.items e)) a
+    all_weaker (λ s. all_pairs row_below s.rows.items ≡ true) (λ s. Pairwise P (map (attachment_on s.item) s.rows.items))
+    (λ s e. pairwise_onto (λ x y. row_below x y ≡ true) P (attachment_on s.item) s.rows.items (f s) (pairs_of row_below s.rows.items e)) ss a
 
 pub graph_is : (ss : List Shelf) → AllByRecursion (λ s. IsCanonItem s.item) ss → all_pairs item_below ss ≡ true → are_lists ss ≡ true
     → IsGraph (rows_on_shelves ss)

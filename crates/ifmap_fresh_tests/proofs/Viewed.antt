@@ -16,6 +16,7 @@ use Rattle.ifmap_ident.specs.Identifiers.{identifier_bytes, identifier_order, sa
 use Rattle.ifmap_ident.specs.Items.{IsCanonItem, identifiers_of, ordered_pair, same_item}
 use Rattle.ifmap_lemmas.specs.Having.{Has, any_has, filter_has, from_has, has_filter, has_from, joined_has, map_has, all_has, first_of}
 use Rattle.ifmap_lemmas.specs.Members.{all_of_test}
+use Rattle.ifmap_lemmas.specs.Rising.{to_distinct}
 use Rattle.ifmap_lemmas.specs.Texts.{eq_itself}
 use Rattle.ifmap_meta.specs.declared.stored.Stored.{Stored}
 use Rattle.ifmap_view.specs.declared.attachments.Attachment.{Attachment}
@@ -26,7 +27,7 @@ use Rattle.ifmap_fresh_tests.specs.declared.shelves.Shelf.{Shelf}
 use Rattle.ifmap_fresh_tests.specs.Lists.{all_pairs, are_lists, are_sound, numbers_below, different_identifiers, has_rows, is_item_known, is_linked, item_below, link_to, links_of, attachment_on, rows_on_shelves}
 use Rattle.ifmap_fresh_tests.proofs.Graphs.{graph_is}
 use Rattle.ifmap_fresh_tests.proofs.Numbers.{below_differ, has_below, pairwise_kept}
-use Rattle.ifmap_fresh_tests.proofs.Pairs.{pairs_of, to_distinct}
+use Rattle.ifmap_fresh_tests.proofs.Pairs.{pairs_of}
 use Rattle.ifmap_lemmas.specs.Pairwise.{Pairwise}
 use Rattle.ifmap_ident.specs.SameLaws.{BytesTellIdentifiers, same_is}
 
