@@ -1,43 +1,14 @@
 //! Events of clients, and what is in use after each.
-ghost use Rattle.std.specs.Prelude.{◌≡◌, ◌<◌, IfOk};
-ghost use Rattle.ifmap_requests.specs.Fit.{IsFitRequest};
+ghost use Rattle.std.specs.Prelude.{◌≡◌, ◌<◌};
 
+use crate::bodies::{client_of, request_of};
 use ifmap_core::{Answer, Ask, Core, Event};
-use ifmap_elem::Text;
 use ifmap_io::Moment;
-use ifmap_meta::ClientName;
 use ifmap_replies::Reply;
-use ifmap_requests::laws::bodies_mean_fit_requests;
-use ifmap_requests::{Request, read_request};
 use ifmap_steps::Steps;
 use std::alloc::{AllocError as NoMemory, Global};
 use std::marker::Brand;
 use std::sync::ledger::{Blank, Ledger};
-
-const OPEN: &str =
-    "<e:Envelope xmlns:e='http://www.w3.org/2003/05/soap-envelope' xmlns:i='http://www.trustedcomputinggroup.org/2010/IFMAP/2' xmlns:m='http://www.trustedcomputinggroup.org/2010/IFMAP-METADATA/2'><e:Body>";
-
-const CLOSE: &str = "</e:Body></e:Envelope>";
-
-// The request that stands in a body.
-fn request_of(alloc: Global, inner: &str) -> Result<Request, NoMemory>
-    ensures { IfOk result IsFitRequest }
-{
-    bodies_mean_fit_requests();
-    let body = format!(in alloc; "{OPEN}{inner}{CLOSE}")?;
-    match read_request(alloc, body.as_bytes()) {
-        Ok(request) => Ok(request),
-        Err(_) => Err(NoMemory),
-    }
-}
-
-// The name of a client.
-fn client_of(alloc: Global, name: &str) -> Result<ClientName, NoMemory> {
-    match ClientName::new(Text(String::from_str(alloc, name)?)) {
-        Some(client) => Ok(client),
-        None => Err(NoMemory),
-    }
-}
 
 // What a client asks, at the moment 1000000000 and with the random word 1.
 fn event_of(alloc: Global, name: &str, inner: &str) -> Result<Event, NoMemory> {

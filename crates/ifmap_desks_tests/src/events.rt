@@ -1,24 +1,16 @@
 //! Events, and what is told of their answers.
 ghost use Rattle.std.specs.Prelude.{◌≡◌, IfOk};
 ghost use Rattle.ifmap_dialogue.specs.ifmap_machine.Events.{IsFitAsk};
-ghost use Rattle.ifmap_requests.specs.Fit.{IsFitRequest};
 ghost use Rattle.ifmap_dialogue.specs.ifmap_machine.State.{opening_state, session_seconds};
 
+use ifmap_core_tests::bodies::{client_of, request_of};
 use ifmap_desks::{Core, CoreMachine, SESSION_SECONDS};
 use ifmap_dialogue::{Answer, Ask, Event};
-use ifmap_elem::Text;
 use ifmap_hall::Asked;
 use ifmap_io::Moment;
-use ifmap_meta::ClientName;
 use ifmap_replies::Reply;
-use ifmap_requests::laws::bodies_mean_fit_requests;
-use ifmap_requests::{Request, read_request};
+use ifmap_requests::Request;
 use std::alloc::{AllocError as NoMemory, Global};
-
-const OPEN: &str =
-    "<e:Envelope xmlns:e='http://www.w3.org/2003/05/soap-envelope' xmlns:i='http://www.trustedcomputinggroup.org/2010/IFMAP/2' xmlns:m='http://www.trustedcomputinggroup.org/2010/IFMAP-METADATA/2'><e:Body>";
-
-const CLOSE: &str = "</e:Body></e:Envelope>";
 
 pub(crate) const BEGIN: &str = "<i:newSession/>";
 
@@ -46,26 +38,6 @@ fn start() -> Moment
     ensures { result ≡ 1000000000 }
 {
     Moment::new(1_000_000_000).unwrap()
-}
-
-// The request that stands in a body.
-fn request_of(alloc: Global, inner: &str) -> Result<Request, NoMemory>
-    ensures { IfOk result IsFitRequest }
-{
-    bodies_mean_fit_requests();
-    let body = format!(in alloc; "{OPEN}{inner}{CLOSE}")?;
-    match read_request(alloc, body.as_bytes()) {
-        Ok(request) => Ok(request),
-        Err(_) => Err(NoMemory),
-    }
-}
-
-// The name of a client.
-fn client_of(alloc: Global, name: &str) -> Result<ClientName, NoMemory> {
-    match ClientName::new(Text(String::from_str(alloc, name)?)) {
-        Some(client) => Ok(client),
-        None => Err(NoMemory),
-    }
 }
 
 // What a client asks: its name, the random word, whether it is asked again, and what stands in the
