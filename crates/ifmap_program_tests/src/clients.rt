@@ -9,7 +9,7 @@ use ifmap_http::Wire;
 use ifmap_io::{Door, Link, MemoryClock, MemoryDoor, MemoryLink, MemorySink, MemorySource, Moment};
 use ifmap_meta::ClientName;
 use ifmap_program::{Gate, NoProgress, RunSetting, Stand, run};
-use ifmap_serving_tests::posts::{posts_of, reply_body};
+use ifmap_serving_tests::posts::{posts_of, push_reply};
 use std::alloc::{AllocError as NoMemory, Global};
 use std::collections::VecDeque;
 use std::sync::Wait;
@@ -37,14 +37,6 @@ static SESSIONS: [&str; 2] = [
     "session-id=\"1-7079b3ac-ba61-f514-41f6-aa57789200f4\"",
     "session-id=\"1-a5f18c19-346a-3cdf-ef65-ba9909737c6d\"",
 ];
-
-// Appends a reply as it is printed.
-fn push_reply(alloc: Global, told: &str, printed: &mut String) -> Result<(), NoMemory> {
-    let body = reply_body(alloc, told)?;
-    let length = body.len();
-    printed.push_str(&format!(in alloc; "={length}\n")?)?;
-    printed.push_str(&body)
-}
 
 // What is printed for the lines, in that session.
 fn printed_in(alloc: Global, session: &str) -> Result<String, NoMemory> {

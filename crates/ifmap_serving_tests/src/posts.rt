@@ -54,6 +54,14 @@ pub fn reply_body(alloc: Global, told: &str) -> Result<String, NoMemory> {
     Ok(body)
 }
 
+/// Appends a reply as a client's script prints it.
+pub fn push_reply(alloc: Global, told: &str, printed: &mut String) -> Result<(), NoMemory> {
+    let body = reply_body(alloc, told)?;
+    let length = body.len();
+    printed.push_str(&format!(in alloc; "={length}\n")?)?;
+    printed.push_str(&body)
+}
+
 /// The answers with these results.
 pub fn answers_of(alloc: Global, results: &[&str]) -> Result<String, NoMemory> {
     let mut answers = String::new(alloc);

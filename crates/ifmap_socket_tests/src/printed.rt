@@ -1,5 +1,5 @@
 //! What is to be printed for the lines of the script.
-use ifmap_serving_tests::posts::reply_body;
+use ifmap_serving_tests::posts::push_reply;
 use std::alloc::{AllocError as NoMemory, Global};
 
 // The first session, where it is begun by the worker of each place, by the ChaCha20 of another program.
@@ -17,14 +17,6 @@ const TOLD: &str =
 
 const LISTED: &str =
     "#1\n<resultItem xmlns:n1=\"http://www.trustedcomputinggroup.org/2010/IFMAP-METADATA/2\"><mac-address value=\"00:00:5e:00:53:01\"/><metadata><n1:role ifmap-cardinality=\"multiValue\" ifmap-publisher-id=\"c1\" ifmap-timestamp=\"2001-09-09T01:46:40Z\"><name>r</name></n1:role></metadata></resultItem>\n";
-
-// Appends a reply as it is printed.
-fn push_reply(alloc: Global, told: &str, printed: &mut String) -> Result<(), NoMemory> {
-    let body = reply_body(alloc, told)?;
-    let length = body.len();
-    printed.push_str(&format!(in alloc; "={length}\n")?)?;
-    printed.push_str(&body)
-}
 
 // The reply to the request for that session.
 fn begun_in(alloc: Global, session: &str) -> Result<String, NoMemory> {
