@@ -1,17 +1,12 @@
 //! Scripts that are carried out over sources, sinks and links in memory.
 ghost use Rattle.std.specs.Prelude.{IsFalse};
 
+use crate::clients::client_of;
 use ifmap_client_script::{Outcome, run_script};
 use ifmap_elem::Text;
 use ifmap_http::Wire;
 use ifmap_io::{MemoryLink, MemorySink, MemorySource};
-use ifmap_meta::ClientName;
 use std::alloc::{AllocError as NoMemory, Global};
-
-/// Who asks.
-pub fn client_of(alloc: Global) -> Result<ClientName, NoMemory> {
-    ClientName::new(Text::from_str(alloc, "c1")?).ok_or(NoMemory)
-}
 
 /// A wire over a link that has these bytes left, and fails at these calls.
 pub fn wire_over(alloc: Global, left: Vec<u8>, fails: Vec<u64>) -> Wire<MemoryLink>

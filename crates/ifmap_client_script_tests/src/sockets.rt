@@ -1,5 +1,5 @@
 //! A script over two pairs of sockets.
-use crate::makers::client_of;
+use crate::clients::client_of;
 use crate::scripts::{
     BEGUN, END, ENDED, LISTED, NEW, POLL, Piece, TOLD, has_printed, lines_of, results_of,
 };

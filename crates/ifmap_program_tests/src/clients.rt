@@ -4,10 +4,10 @@ ghost use Rattle.std.specs.Prelude.{IsFalse};
 use crate::gates::OpenGate;
 use crate::makers::words_of;
 use ifmap_client_script::{Outcome, run_script};
+use ifmap_client_script_tests::clients::client_of;
 use ifmap_elem::Text;
 use ifmap_http::Wire;
 use ifmap_io::{Door, Link, MemoryClock, MemoryDoor, MemoryLink, MemorySink, MemorySource, Moment};
-use ifmap_meta::ClientName;
 use ifmap_program::{Gate, NoProgress, RunSetting, Stand, run};
 use ifmap_serving_tests::posts::{posts_of, push_reply};
 use std::alloc::{AllocError as NoMemory, Global};
@@ -92,10 +92,6 @@ fn script_of(alloc: Global, last: &str) -> Result<Vec<u8>, NoMemory> {
     }
     script.extend_from_slice(last.as_bytes())?;
     Ok(script)
-}
-
-fn client_of(alloc: Global) -> Result<ClientName, NoMemory> {
-    ClientName::new(Text::from_str(alloc, "c1")?).ok_or(NoMemory)
 }
 
 // Carries the lines and that last one out over two wires.

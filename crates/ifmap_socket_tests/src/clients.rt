@@ -2,10 +2,10 @@
 ghost use Rattle.std.specs.Prelude.{IsFalse};
 
 use ifmap_client_script::{Outcome, run_script};
+use ifmap_client_script_tests::clients::client_of;
 use ifmap_elem::Text;
 use ifmap_http::Wire;
 use ifmap_io::{Link, MemorySink, MemorySource, TcpLink};
-use ifmap_meta::ClientName;
 use std::alloc::{AllocError as NoMemory, Global};
 use std::io;
 use std::net::{Net, TcpListener, TcpStream};
@@ -34,10 +34,6 @@ fn script_of(alloc: Global) -> Result<Vec<u8>, NoMemory> {
         script.extend_from_slice(line.as_bytes())?;
     }
     Ok(script)
-}
-
-fn client_of(alloc: Global) -> Result<ClientName, NoMemory> {
-    ClientName::new(Text::from_str(alloc, "c1")?).ok_or(NoMemory)
 }
 
 /// A link to where the listener listens.
