@@ -18,7 +18,8 @@ returns-in_err-limit c = λ scopes.
     let error = c.in_err-limit.field-0.0 in
     refused_exit (form_check new_session_form new_session_of scopes e) c.from_residual.result error c.from_residual.ensures.1
     (refused_as_read new_session_form new_session_of scopes e error
-    (read_refused_at_attributes new_session_form scopes e error (refused_alone limit_field (scopes []) e error c.in_err-limit.ensures.answer)))
+    (read_refused_at_attributes new_session_form scopes e error
+    (refused_alone limit_field (scopes []) e error c.in_err-limit.ensures.answer)))
 
 pub returns-then-not-has_only : goal.returns-then-not-has_only
 returns-then-not-has_only c = λ scopes.

@@ -17,7 +17,8 @@ returns-in_err-forever c = λ scopes.
     let error = c.in_err-forever.field-0.0 in
     refused_exit (form_check update_form update_from_form scopes e) c.from_residual.result error c.from_residual.ensures.1
     (refused_as_read update_form update_from_form scopes e error
-    (read_refused_at_attributes update_form scopes e error (refused_alone lifetime_field (scopes []) e error c.in_err-forever.ensures.answer)))
+    (read_refused_at_attributes update_form scopes e error
+    (refused_alone lifetime_field (scopes []) e error c.in_err-forever.ensures.answer)))
 
 pub returns-then-not-has_only : goal.returns-then-not-has_only
 returns-then-not-has_only c = λ scopes.
