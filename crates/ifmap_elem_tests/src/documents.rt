@@ -233,7 +233,7 @@ fn is_place(wanted: &str, words: &str, at: u64) -> bool {
 
 fn is_printed(alloc: Global, element: &Element, wanted: &str) -> bool {
     match canonical(alloc, element) {
-        Ok(printed) => printed.0.as_slice() == wanted.as_bytes(),
+        Ok(printed) => printed.as_slice() == wanted.as_bytes(),
         Err(_) => false,
     }
 }
@@ -290,9 +290,9 @@ fn documents_that_are_no_texts_are_unreadable(rt: HostRuntime) {
 }
 
 fn push_row(out: &mut String, prefix: &Text, space: &Text) -> Result<(), NoMemory> {
-    out.push_str(prefix.0.as_str())?;
+    out.push_str(prefix.as_str())?;
     out.push('=')?;
-    out.push_str(space.0.as_str())?;
+    out.push_str(space.as_str())?;
     out.push(';')
 }
 
@@ -307,7 +307,7 @@ fn text_of_rows(alloc: Global, rows: &[(Text, Text)]) -> Result<String, NoMemory
 
 fn text_of_copy(alloc: Global, scope: &Scope) -> Result<String, NoMemory> {
     let copy = scope.copy(alloc)?;
-    text_of_rows(alloc, &copy.rows.0)
+    text_of_rows(alloc, copy.rows.as_slice())
 }
 
 // The prefixes in scope at the element with this path.

@@ -130,7 +130,7 @@ fn escapes_in_children(alloc: Global) -> Result<Many<Child>, NoMemory> {
 
 fn is_printed(alloc: Global, element: &Element, bytes: &str) -> bool {
     match canonical(alloc, element) {
-        Ok(printed) => printed.0.as_slice() == bytes.as_bytes(),
+        Ok(printed) => printed.as_slice() == bytes.as_bytes(),
         Err(_) => false,
     }
 }
@@ -183,7 +183,7 @@ fn print_with_spaces(alloc: Global, words: &[&str]) -> Result<Many<u8>, NoMemory
 
 fn prints_with_spaces(alloc: Global, words: &[&str], bytes: &str) -> bool {
     match print_with_spaces(alloc, words) {
-        Ok(printed) => printed.0.as_slice() == bytes.as_bytes(),
+        Ok(printed) => printed.as_slice() == bytes.as_bytes(),
         Err(_) => false,
     }
 }

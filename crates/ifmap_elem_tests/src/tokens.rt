@@ -4,22 +4,22 @@ use ifmap_lexer::{LexError, Lexed, token_of};
 use std::alloc::{AllocError as NoMemory, Global};
 
 fn push_name(name: &Qualified, out: &mut String) -> Result<(), NoMemory> {
-    out.push_str(name.prefix.0.as_str())?;
+    out.push_str(name.prefix.as_str())?;
     out.push(':')?;
-    out.push_str(name.local.0.as_str())
+    out.push_str(name.local.as_str())
 }
 
 fn push_assignment(assignment: &Assignment, out: &mut String) -> Result<(), NoMemory> {
     out.push(' ')?;
     push_name(&assignment.name, out)?;
     out.push('=')?;
-    out.push_str(assignment.value.0.as_str())
+    out.push_str(assignment.value.as_str())
 }
 
 fn push_tag(word: &str, tag: &Tag, out: &mut String) -> Result<(), NoMemory> {
     out.push_str(word)?;
     push_name(&tag.name, out)?;
-    for assignment in &tag.assignments.0 {
+    for assignment in tag.assignments.iter() {
         push_assignment(assignment, out)?;
     }
     Ok(())
@@ -37,11 +37,11 @@ fn push_token(token: &Token, out: &mut String) -> Result<(), NoMemory> {
         }
         Token::Section(text) => {
             out.push_str("section ")?;
-            out.push_str(text.0.as_str())
+            out.push_str(text.as_str())
         }
         Token::Characters { blank, text } => {
             out.push_str(if *blank { "blank " } else { "text " })?;
-            out.push_str(text.0.as_str())
+            out.push_str(text.as_str())
         }
     }
 }
