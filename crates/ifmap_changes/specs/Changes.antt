@@ -1,14 +1,15 @@
 -- Changes of the graph while an event is answered, and their ways back.
-use Rattle.std.specs.Prelude.{◌≡◌, ◌≤◌, ◌==◌, ◌||◌, ℕ, Bool, true, List, [], ◌∷◌, Some, length, map, slice_get, vec_capacity, vec_len}
-use Rattle.std.specs.List.{list_any, zip}
-use Rattle.ifmap_changes.specs.Between.{Asking, IsSeen, SharesNumbers, rest_of, sight_now, state_now}
+use Rattle.std.specs.Prelude.{◌≡◌, ◌≤◌, ◌==◌, ◌||◌, ℕ, Bool, true, List, [], ◌∷◌, OnErr, OnOk, Result, Some, length, map, slice_get, vec_capacity, vec_len}
+use Rattle.std.specs.List.{AllByRecursion, list_any, zip}
+use Rattle.ifmap_changes.specs.Between.{AreChangedWith, AreKept, Asking, HasNoSubscriptions, IsSeen, IsSoundSoFar, IsSteady, SharesNumbers, rest_of, sight_now, state_now}
 use Rattle.ifmap_changes.specs.declared.changes.Made.{Made}
 use Rattle.ifmap_changes.specs.declared.parts.Parts.{Parts}
 use Rattle.ifmap_tellings.specs.declared.tellings.Pending.{Pending}
-use Rattle.ifmap_tellings.specs.Tellings.{AllKept, AloneAreBare, CanTell, EachTelling, HasSameSessions, IsSized}
+use Rattle.ifmap_tellings.specs.Tellings.{AllKept, AloneAreBare, CanTell, EachTelling, HasSameSessions, IsSized, kept_items}
 use Rattle.ifmap_tellings.specs.ifmap_delta.Changes.{ShowsAfter}
 use Rattle.ifmap_tellings.specs.ifmap_delta.Sights.{IsUpToDate, ViewSeen}
 use Rattle.ifmap_tellings.specs.ifmap_delta.Ways.{HasSameSearch}
+use Rattle.ifmap_ident.specs.Items.{IsCanonItem}
 use Rattle.ifmap_tellings.specs.ifmap_machine.Ending.{without_standing}
 use Rattle.ifmap_tellings.specs.ifmap_machine.State.{State}
 use Rattle.ifmap_tellings.specs.ifmap_machine.Telling.{overflow, tell}
@@ -20,7 +21,8 @@ use Rattle.ifmap_tellings.specs.ifmap_publish.declared.who.Who.{Who}
 use Rattle.ifmap_tellings.specs.ifmap_publish.declared.who.Who.TheVariants.{Sessions}
 use Rattle.ifmap_tellings.specs.ifmap_publish.Retract.{retract}
 use Rattle.ifmap_tellings.specs.ifmap_standing.declared.standing.Standing.{Standing}
-use Rattle.ifmap_tellings.specs.ifmap_standing.Kept.{AtEach, StaysRelated}
+use Rattle.ifmap_tellings.specs.ifmap_standing.Kept.{AtEach, KeepsSame, StaysRelated}
+use Rattle.ifmap_tellings.specs.ifmap_standing.Standing.{standing_of}
 use Rattle.ifmap_tellings.specs.ifmap_standing.Ways.{LeadBack}
 use Rattle.ifmap_graph.specs.declared.changes.Ready.{Ready}
 use Rattle.ifmap_graph.specs.Back.{IsUndoTo, KeepsBacks}
@@ -69,11 +71,32 @@ pub record IsTold (a : Asking) (old : Parts) (before : Pending) (notes : List No
   pub sized : EachTelling (λ n t. IsSized n t new.sessions.live) after.tellings
   pub alone : AloneAreBare after.tellings after.gone.items new.standing.items
 
+-- the graph and the searches of subscriptions stay, and after an error each subscription keeps what it kept
+pub record KeepsSearches {X E : Type 0} (result : Result X E) (old new : Parts) : Type 0 where
+  pub graph : new.graph ≡ old.graph
+  pub same : AtEach (λ _. StaysRelated HasSameSearch) old.standing.items new.standing.items
+  pub err : OnErr result (AtEach (λ _. StaysRelated KeepsSame) old.standing.items new.standing.items)
+
+-- a plan can become a change while an event is answered: the graph is steady, what is so far is sound, the plan fits what is stored, and
+-- its notes are of canonical items
+pub record CanMakeChange (plan : Plan) (a : Asking) (parts : Parts) (pending : Pending) : Type 0 where
+  pub steady : IsSteady parts.graph parts.standing.items
+  pub ready : IsSoundSoFar a parts pending
+  pub fits : Fits (rows_now parts.graph) plan.changes
+  pub canon : AllByRecursion (λ (n : Note). IsCanonItem n.item) plan.notes
+
 -- all is told of a change by a plan, whatever attachments it makes of those that are there
 abbrev pub TellsPlan : Asking → Plan → Parts → Pending → Parts → Pending → Type 0
 TellsPlan a plan old before new after =
     (rows : List Attachment) → IsGraph rows → IsAfter plan.changes (rows_now old.graph) rows
     → state_now a new after ≡ overflow (tell rows plan.notes (state_now a old before))
+
+-- all is told of a change by a plan, and no session has subscriptions that had none; or after an error the parts are kept
+pub record TellsPlanOrKeeps {X E : Type 0} (result : Result X E) (plan : Plan) (a : Asking) (old : Parts) (before : Pending)
+    (new : Parts) (after : Pending) : Type 0 where
+  pub told : OnOk result (TellsPlan a plan old before new after)
+  pub bare : OnOk result ((n : ℕ) → HasNoSubscriptions n old before → HasNoSubscriptions n new after)
+  pub kept : OnErr result (AreKept old new)
 
 -- a change can be left as it is: its items are waited for
 pub record CanSettle (made : Made) (parts : Parts) : Type 0 where
@@ -87,6 +110,12 @@ pub record CanTakeBack (made : Made) (before parts : Parts) : Type 0 where
   pub numbers : SharesNumbers before.graph parts.graph
   pub standing : LeadBack before.standing.items made.ways parts.standing.items
   pub sessions : HasSameSessions before.sessions parts.sessions
+
+-- a change was made while an event is answered, with its ways back: its items are out still, and no number went
+pub record HasWaysBack (a : Asking) (old new : Parts) (after : Pending) (made : Made) : Type 0 where
+  pub changed : AreChangedWith (items_changed made.undo.plan.changes) a old new after
+  pub back : CanTakeBack made old new
+  pub numbers : KeepsNumbers old.graph new.graph
 
 -- a change was left as it is: nothing that is seen changes
 pub record IsSettled (old new : Parts) : Type 0 where
@@ -102,6 +131,15 @@ pub record IsSettled (old new : Parts) : Type 0 where
 abbrev pub flags_with : List ℕ → List Bool → List Standing → List Bool
 flags_with serials gone standing = map (λ (p : Bool × Standing). p.0 || list_any (λ n. n == p.1.serial) serials) (zip gone standing)
 
+-- the subscriptions of these sessions are flagged as gone too, so that the others are left, and what is pending of sessions stays
+pub record FlagsSessions (serials : List ℕ) (standing : List Standing) (old new : Pending) : Type 0 where
+  pub gone : new.gone.items ≡ flags_with serials old.gone.items standing
+  pub flags : length new.gone.items ≡ length standing
+  pub left : map standing_of (kept_items new.gone.items standing)
+      ≡ without_standing serials (map standing_of (kept_items old.gone.items standing))
+  pub stay : (i : ℕ) → slice_get old.gone.items i ≡ Some true → slice_get new.gone.items i ≡ Some true
+  pub tellings : new.tellings ≡ old.tellings
+
 -- a plan takes away what is of these, and notifies nothing
 pub record TakesAway (who : Who) (rows : List Attachment) (plan : Plan) : Type 0 where
   pub fits : Fits rows plan.changes
@@ -112,6 +150,12 @@ pub record TakesAway (who : Who) (rows : List Attachment) (plan : Plan) : Type 0
 -- the state once what is of these is taken away, and all are told
 abbrev pub state_taken_from : Who → State → State
 state_taken_from who state = overflow (tell (retract who state.graph) [] state)
+
+-- what is of these is taken away and all are told, or after an error the parts are kept
+pub record TakesAwayOrKeeps {X E : Type 0} (result : Result X E) (who : Who) (a : Asking) (old : Parts) (before : Pending)
+    (new : Parts) (after : Pending) : Type 0 where
+  pub told : OnOk result (state_now a new after ≡ state_taken_from who (state_now a old before))
+  pub kept : OnErr result (AreKept old new)
 
 -- the state once a session's subscriptions stand no longer, and the others are told what goes with it
 abbrev pub take_session : ℕ → State → State

@@ -1,19 +1,17 @@
 //! Changes of the graph, with all that the sessions are to be told of them.
-ghost use Rattle.std.specs.Prelude.{◌≡◌, ◌≢◌, ◌<◌, ◌≤◌, ◌==◌, ◌∷◌, ◌++◌, ℕ, true, false, [], List, Some, IfOk, OnErr, OnOk, if◌then◌else◌, length, map, set, slice_get, vec_capacity, vec_len};
+ghost use Rattle.std.specs.Prelude.{◌≡◌, ◌≢◌, ◌<◌, ◌≤◌, ◌==◌, ◌∷◌, ◌++◌, true, false, [], List, IfOk, OnErr, OnOk, if◌then◌else◌, length, map, set, slice_get, vec_capacity, vec_len};
 ghost use Rattle.std.specs.List.{AllByRecursion, list_any, zip};
 ghost use Rattle.std.specs.List.Sorted.{IsStrictlySortedBy};
 ghost use Rattle.std.specs.Ordering.{nat_cmp};
-ghost use Rattle.ifmap_changes.specs.Between.{AreBack, AreChanged, AreChangedWith, AreKept, AreOrdered, AreParts, Asking, HasNoSubscriptions, IsSoundSoFar, IsSteady, sight_now, state_now};
+ghost use Rattle.ifmap_changes.specs.Between.{AreBack, AreChanged, AreKept, AreOrdered, AreParts, Asking, IsSoundSoFar, IsSteady, sight_now, state_now};
 ghost use Rattle.ifmap_changes.specs.Bounds.{IsPlanWithin};
-ghost use Rattle.ifmap_changes.specs.Changes.{CanSettle, CanTakeBack, IsBegun, IsSettled, IsTold, TellsPlan, flags_with, sight_next};
+ghost use Rattle.ifmap_changes.specs.Changes.{CanMakeChange, CanSettle, CanTakeBack, FlagsSessions, HasWaysBack, IsBegun, IsSettled, IsTold, KeepsSearches, TellsPlanOrKeeps, flags_with, sight_next};
 ghost use Rattle.ifmap_changes.specs.declared.parts.Parts.{Parts};
 ghost use Rattle.ifmap_tellings.specs.declared.tellings.Pending.{Pending};
-ghost use Rattle.ifmap_tellings.specs.Tellings.{AllKept, HasSameSessions, kept_items};
+ghost use Rattle.ifmap_tellings.specs.Tellings.{AllKept, HasSameSessions};
 ghost use Rattle.ifmap_tellings.specs.ifmap_delta.Changes.{ShowsAfter};
 ghost use Rattle.ifmap_tellings.specs.ifmap_delta.Sights.{IsUpToDate};
-ghost use Rattle.ifmap_tellings.specs.ifmap_delta.Ways.{HasSameSearch};
 ghost use Rattle.ifmap_ident.specs.Items.{IsCanonItem};
-ghost use Rattle.ifmap_tellings.specs.ifmap_machine.Ending.{without_standing};
 ghost use Rattle.ifmap_graph.specs.ifmap_plans.Plans.{Fits};
 ghost use Rattle.ifmap_tellings.specs.ifmap_standing.Bounds.{IsWithinEach};
 ghost use Rattle.ifmap_tellings.specs.ifmap_standing.Kept.{AtEach, KeepsSame, StaysRelated};
@@ -23,7 +21,7 @@ ghost use Rattle.ifmap_tellings.specs.ifmap_standing.Standing.{standing_of};
 ghost use Rattle.ifmap_tellings.specs.ifmap_standing.Ways.{LeadBack};
 ghost use Rattle.ifmap_tellings.specs.ifmap_standing.Ways as the_ways;
 ghost use Rattle.ifmap_graph.specs.Out.{items_changed};
-ghost use Rattle.ifmap_graph.specs.Seen.{AwaitsLess, KeepsNumbers, StaysLeanWithout, rows_next, rows_now};
+ghost use Rattle.ifmap_graph.specs.Seen.{AwaitsLess, StaysLeanWithout, rows_next, rows_now};
 
 use crate::asking::Asking;
 use crate::parts::Parts;
@@ -56,16 +54,10 @@ pub fn make_change<L: Ledger>(
     plan: Plan,
     steps: &mut Steps<L>,
 ) -> Result<(), NoMemory>
-    requires steady { IsSteady parts.old.graph parts.old.standing.items }
-    requires ready { IsSoundSoFar asking.now parts.old pending.old }
-    requires fits { Fits (rows_now parts.old.graph) plan.changes }
-    requires canon { AllByRecursion (λ n. IsCanonItem n.item) plan.notes }
-    ensures told { OnOk result
-        (TellsPlan asking.now plan parts.old pending.old parts.new pending.new) }
+    requires can { CanMakeChange plan asking.now parts.old pending.old }
+    ensures tells { TellsPlanOrKeeps result plan asking.now parts.old pending.old parts.new
+        pending.new }
     ensures changed { OnOk result (AreChanged asking.now parts.old parts.new pending.new) }
-    ensures bare { OnOk result ((n : ℕ) → HasNoSubscriptions n parts.old pending.old
-        → HasNoSubscriptions n parts.new pending.new) }
-    ensures kept { OnErr result (AreKept parts.old parts.new) }
 
     // Also at want of memory.
     ensures steps { IsPlanWithin plan (state_now asking.now parts.old pending.old) steps.old
@@ -85,19 +77,10 @@ pub fn make_kept<L: Ledger>(
     plan: Plan,
     steps: &mut Steps<L>,
 ) -> Result<Made, NoMemory>
-    requires steady { IsSteady parts.old.graph parts.old.standing.items }
-    requires ready { IsSoundSoFar asking.now parts.old pending.old }
-    requires fits { Fits (rows_now parts.old.graph) plan.changes }
-    requires canon { AllByRecursion (λ n. IsCanonItem n.item) plan.notes }
-    ensures told { OnOk result
-        (TellsPlan asking.now plan parts.old pending.old parts.new pending.new) }
-    ensures changed { IfOk result (λ made. AreChangedWith (items_changed made.undo.plan.changes)
-        asking.now parts.old parts.new pending.new) }
-    ensures bare { OnOk result ((n : ℕ) → HasNoSubscriptions n parts.old pending.old
-        → HasNoSubscriptions n parts.new pending.new) }
-    ensures back { IfOk result (λ made. CanTakeBack made parts.old parts.new) }
-    ensures numbers { OnOk result (KeepsNumbers parts.old.graph parts.new.graph) }
-    ensures kept { OnErr result (AreKept parts.old parts.new) }
+    requires can { CanMakeChange plan asking.now parts.old pending.old }
+    ensures tells { TellsPlanOrKeeps result plan asking.now parts.old pending.old parts.new
+        pending.new }
+    ensures ways { IfOk result (HasWaysBack asking.now parts.old parts.new pending.new) }
 
     // Also at want of memory.
     ensures steps { IsPlanWithin plan (state_now asking.now parts.old pending.old) steps.old
@@ -154,12 +137,8 @@ fn tell_parts<L: Ledger>(
         pending.new) }
     ensures ways { IfOk result (λ ways. LeadBack parts.old.standing.items ways
         parts.new.standing.items) }
-    ensures same { AtEach (λ _. StaysRelated HasSameSearch) parts.old.standing.items
-        parts.new.standing.items }
-    ensures graph { parts.new.graph ≡ parts.old.graph }
+    ensures keeps { KeepsSearches result parts.old parts.new }
     ensures sessions { HasSameSessions parts.old.sessions parts.new.sessions }
-    ensures err { OnErr result (AtEach (λ _. StaysRelated KeepsSame) parts.old.standing.items
-        parts.new.standing.items) }
     ensures steps { IsWithinEach (sight_now parts.old.graph) (sight_next parts.old.graph)
         (zip pending.old.gone.items parts.old.standing.items) steps.old steps.new }
 {
@@ -188,10 +167,8 @@ fn tell_standing<L: Ledger>(
     requires change { ShowsAfter (sight_now parts.old.graph) (sight_next parts.old.graph)
         plan.now.changes }
     requires canon { AllByRecursion (λ n. IsCanonItem n.item) plan.now.notes }
-    ensures graph { parts.new.graph ≡ parts.old.graph }
+    ensures keeps { KeepsSearches result parts.old parts.new }
     ensures sessions { parts.new.sessions ≡ parts.old.sessions }
-    ensures same { AtEach (λ _. StaysRelated HasSameSearch) parts.old.standing.items
-        parts.new.standing.items }
     ensures news { IfOk result (λ told. told.news ≡ news_of_each (rows_now parts.old.graph)
         (rows_next parts.old.graph) plan.now.notes gone.now
         (map standing_of parts.old.standing.items)) }
@@ -199,8 +176,6 @@ fn tell_standing<L: Ledger>(
         (AllKept (λ x. IsUpToDate (sight_next parts.old.graph) x.subscription)
         gone.now parts.new.standing.items) }
     ensures ways { IfOk result (λ told. LeadBack parts.old.standing.items told.ways
-        parts.new.standing.items) }
-    ensures err { OnErr result (AtEach (λ _. StaysRelated KeepsSame) parts.old.standing.items
         parts.new.standing.items) }
     ensures steps { IsWithinEach (sight_now parts.old.graph) (sight_next parts.old.graph)
         (zip gone.now parts.old.standing.items) steps.old steps.new }
@@ -281,17 +256,9 @@ pub fn undo_made(parts: &mut Parts, made: Made)
 pub fn flag_sessions(standing: &[Standing], pending: &mut Pending, serials: &[u64])
     requires flags { length pending.old.gone.items ≡ length standing.now }
     requires rising { IsStrictlySortedBy nat_cmp serials.now }
-    ensures gone { pending.new.gone.items
-        ≡ flags_with serials.now pending.old.gone.items standing.now }
-    ensures flags { length pending.new.gone.items ≡ length standing.now }
-    ensures left { map standing_of (kept_items pending.new.gone.items standing.now)
-        ≡ without_standing serials.now
-        (map standing_of (kept_items pending.old.gone.items standing.now)) }
+    ensures flags { FlagsSessions serials.now standing.now pending.old pending.new }
     ensures bare { AllKept (λ x. list_any (λ n. n == x.serial) serials.now ≡ false)
         pending.new.gone.items standing.now }
-    ensures stay { (i : ℕ) → slice_get pending.old.gone.items i ≡ Some true
-        → slice_get pending.new.gone.items i ≡ Some true }
-    ensures tellings { pending.new.tellings ≡ pending.old.tellings }
 {
     set_flags(standing, &mut pending.gone, serials);
 }
@@ -329,16 +296,8 @@ fn set_flag(flags: &mut Vec<bool>, at: usize, is_to_be: bool)
 /// The subscriptions of one session are gone. It takes no memory.
 pub fn flag_session(standing: &[Standing], pending: &mut Pending, serial: u64)
     requires flags { length pending.old.gone.items ≡ length standing.now }
-    ensures gone { pending.new.gone.items
-        ≡ flags_with (serial ∷ []) pending.old.gone.items standing.now }
-    ensures flags { length pending.new.gone.items ≡ length standing.now }
-    ensures left { map standing_of (kept_items pending.new.gone.items standing.now)
-        ≡ without_standing (serial ∷ []) (map standing_of
-        (kept_items pending.old.gone.items standing.now)) }
+    ensures flags { FlagsSessions (serial ∷ []) standing.now pending.old pending.new }
     ensures bare { AllKept (λ x. x.serial ≢ serial) pending.new.gone.items standing.now }
-    ensures stay { (i : ℕ) → slice_get pending.old.gone.items i ≡ Some true
-        → slice_get pending.new.gone.items i ≡ Some true }
-    ensures tellings { pending.new.tellings ≡ pending.old.tellings }
 {
     flag_sessions(standing, pending, &[serial]);
 }

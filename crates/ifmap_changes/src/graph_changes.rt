@@ -1,16 +1,15 @@
 //! What changes the graph: what is published, and what goes with publishers and sessions.
 ghost use Rattle.std.specs.Prelude.{◌≡◌, ◌∷◌, ℕ, [], IfOk, OnErr, OnOk};
 ghost use Rattle.std.specs.List.{AllByRecursion};
-ghost use Rattle.ifmap_changes.specs.Between.{AreChanged, AreChangedWith, AreKept, HasNoSubscriptions, IsSoundSoFar, IsSteady, state_now};
+ghost use Rattle.ifmap_changes.specs.Between.{AreChanged, AreKept, HasNoSubscriptions, IsSoundSoFar, IsSteady, state_now};
 ghost use Rattle.ifmap_changes.specs.Bounds.{IsEndedWithin, IsRetractedWithin, IsTakenWithin, IsToldWithin};
-ghost use Rattle.ifmap_changes.specs.Changes.{CanSettle, CanTakeBack, TakesAway, state_taken_from, take_session};
+ghost use Rattle.ifmap_changes.specs.Changes.{CanSettle, HasWaysBack, TakesAway, TakesAwayOrKeeps, take_session};
 ghost use Rattle.ifmap_tellings.specs.ifmap_machine.Telling.{overflow, tell};
 ghost use Rattle.ifmap_graph.specs.ifmap_plans.Plans.{AreWhole};
 ghost use Rattle.ifmap_tellings.specs.ifmap_publish.Apply.{Authorship, apply};
 ghost use Rattle.ifmap_tellings.specs.ifmap_publish.Notes.{notes_of};
 ghost use Rattle.ifmap_tellings.specs.ifmap_requests.Fit.{IsFitOp};
-ghost use Rattle.ifmap_graph.specs.Out.{items_changed};
-ghost use Rattle.ifmap_graph.specs.Seen.{KeepsNumbers, rows_now};
+ghost use Rattle.ifmap_graph.specs.Seen.{rows_now};
 
 use crate::asking::Asking;
 use crate::changes::{Made, flag_session, make_change, make_kept};
@@ -84,12 +83,11 @@ pub fn take_away<L: Ledger>(
 ) -> Result<(), NoMemory>
     requires steady { IsSteady parts.old.graph parts.old.standing.items }
     requires ready { IsSoundSoFar asking.now parts.old pending.old }
-    ensures told { OnOk result (state_now asking.now parts.new pending.new
-        ≡ state_taken_from who.now (state_now asking.now parts.old pending.old)) }
+    ensures takes { TakesAwayOrKeeps result who.now asking.now parts.old pending.old parts.new
+        pending.new }
     ensures changed { OnOk result (AreChanged asking.now parts.old parts.new pending.new) }
     ensures bare { OnOk result ((n : ℕ) → HasNoSubscriptions n parts.old pending.old
         → HasNoSubscriptions n parts.new pending.new) }
-    ensures kept { OnErr result (AreKept parts.old parts.new) }
 
     // Also at want of memory.
     ensures steps { IsTakenWithin who.now (state_now asking.now parts.old pending.old) steps.old
@@ -155,14 +153,10 @@ pub fn take_away_kept<L: Ledger>(
 ) -> Result<Made, NoMemory>
     requires steady { IsSteady parts.old.graph parts.old.standing.items }
     requires ready { IsSoundSoFar asking.now parts.old pending.old }
-    ensures told { OnOk result (state_now asking.now parts.new pending.new
-        ≡ state_taken_from who.now (state_now asking.now parts.old pending.old)) }
-    ensures changed { IfOk result (λ made. AreChangedWith (items_changed made.undo.plan.changes)
-        asking.now parts.old parts.new pending.new) }
+    ensures takes { TakesAwayOrKeeps result who.now asking.now parts.old pending.old parts.new
+        pending.new }
+    ensures ways { IfOk result (HasWaysBack asking.now parts.old parts.new pending.new) }
     ensures settle { IfOk result (λ made. CanSettle made parts.new) }
-    ensures back { IfOk result (λ made. CanTakeBack made parts.old parts.new) }
-    ensures numbers { OnOk result (KeepsNumbers parts.old.graph parts.new.graph) }
-    ensures kept { OnErr result (AreKept parts.old parts.new) }
 
     // Also at want of memory.
     ensures steps { IsTakenWithin who.now (state_now asking.now parts.old pending.old) steps.old

@@ -1,4 +1,5 @@
 use Rattle.std.proofs.Common.{◌≡◌, ◌∙◌, ap, refl, sym, subst, map, slice_get}
+use Rattle.ifmap_lemmas.specs.Results.{on_err}
 use Rattle.ifmap_tellings.specs.ifmap_delta.Sights.{IsUpToDate}
 use Rattle.ifmap_tellings.specs.ifmap_delta.Ways.{HasSameSearch}
 use Rattle.ifmap_tellings.specs.ifmap_standing.Kept.{AtEach, StaysRelated}
@@ -35,7 +36,8 @@ news g c =
     let old = c.args.parts.now
     in record {
       ready = subst (λ (p : Parts). IsSoundSoFar c.args.asking.now p c.args.pending.now) (sym (same_before g c)) c.requires.ready;
-      same = subst (AtEach (λ _. StaysRelated HasSameSearch) old.standing.items) (sym c.deref-2.ensures.value) c.tell_standing.ensures.same;
+      same = subst (AtEach (λ _. StaysRelated HasSameSearch) old.standing.items) (sym c.deref-2.ensures.value)
+          c.tell_standing.ensures.keeps.same;
       are_news = subst (λ flags. c.in_ok-told.told.news
           ≡ news_of_each (rows_now old.graph) (rows_next old.graph) c.args.plan.now.notes flags (map standing_of old.standing.items))
           c.deref.ensures.value c.in_ok-told.ensures.news;
@@ -60,6 +62,15 @@ queue_news-requires g c =
       skipped = skips known;
     }
 
+pub returns-in-Ok-clause-keeps : goal.returns-in-Ok-clause-keeps
+returns-in-Ok-clause-keeps g c =
+    let e = c.tell_standing.ensures.keeps in record { graph = e.graph; same = e.same; err = tt }
+
+pub returns-in_err-told-clause-keeps : goal.returns-in_err-told-clause-keeps
+returns-in_err-told-clause-keeps g c =
+    let e = c.in_err-told.ensures.keeps
+    in record { graph = e.graph; same = e.same; err = on_err c.from_residual.result _ e.err }
+
 pub returns-in-Ok-clause-told : goal.returns-in-Ok-clause-told
 returns-in-Ok-clause-told g c =
     let place = (goal.at.returns-in-Ok-clause-told g c).After-deref-2
@@ -74,4 +85,4 @@ returns-in-Ok-clause-told g c =
     }
     in subst (λ (p : Parts). IsTold c.args.asking.now p pending c.args.plan.now.notes new c.queue_news.new.pending) (same_before g place)
     (is_told (news g place) c.queue_news.new.pending c.queue_news.new.sessions c.queue_news.ensures.same told.told told.gone told.overrun
-    told.brought told.can_tell told.sized told.alone kept new c.tell_standing.ensures.graph refl (sym c.deref-2.ensures.value))
+    told.brought told.can_tell told.sized told.alone kept new c.tell_standing.ensures.keeps.graph refl (sym c.deref-2.ensures.value))

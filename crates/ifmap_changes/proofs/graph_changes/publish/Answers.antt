@@ -34,12 +34,19 @@ applies g c =
     subst (λ a. IsAfter c.in_ok-plan.plan.changes first (apply first a c.args.publication.now.ops.now)) (same_author g c)
     c.in_ok-plan.ensures.applies
 
-pub make_change-requires-clause-canon : goal.make_change-requires-clause-canon
-make_change-requires-clause-canon g c =
+pub make_change-requires : goal.make_change-requires
+make_change-requires g c =
     let serial = c.args.publication.now.serial in
     let inner : Authorship = record { client = c.asking.inside.client.now; serial = serial; moment = c.asking.inside.moment } in
-    subst (λ notes. AllByRecursion (λ (n : Note). IsCanonItem n.item) notes) (sym c.in_ok-plan.ensures.notes)
-    (notes_canon inner c.args.publication.now.ops.now c.requires.fit)
+    record {
+      can = record {
+        steady = c.requires.steady;
+        ready = c.requires.ready;
+        fits = c.in_ok-plan.ensures.fits;
+        canon = subst (λ notes. AllByRecursion (λ (n : Note). IsCanonItem n.item) notes) (sym c.in_ok-plan.ensures.notes)
+            (notes_canon inner c.args.publication.now.ops.now c.requires.fit);
+      };
+    }
 
 pub returns-clause-told : goal.returns-clause-told
 returns-clause-told g c =
@@ -51,7 +58,10 @@ returns-clause-told g c =
     on_ok_weaker c.make_change.result (λ f. f (apply first by ops)
     (c.publishing_keeps_graphs.ensures.graph first by ops c.requires.fit c.is_view.ensures.graph) (applies g place)
     ∙ ap (λ notes. overflow (tell (apply first by ops) notes before))
-    (c.in_ok-plan.ensures.notes ∙ ap (λ a. notes_of a ops) (same_author g place))) c.make_change.ensures.told
+    (c.in_ok-plan.ensures.notes ∙ ap (λ a. notes_of a ops) (same_author g place))) c.make_change.ensures.tells.told
+
+pub returns-clause-kept : goal.returns-clause-kept
+returns-clause-kept g c = c.make_change.ensures.tells.kept
 
 pub returns-in_err-plan-clause-kept : goal.returns-in_err-plan-clause-kept
 returns-in_err-plan-clause-kept g c = error_keeps c.from_residual.result c.args.parts.now c.requires.steady

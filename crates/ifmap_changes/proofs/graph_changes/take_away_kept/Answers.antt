@@ -1,29 +1,42 @@
-use Rattle.ifmap_lemmas.specs.Outcomes.{where_value}
+use Rattle.std.proofs.lemmas.Result.{IfOk-weaker}
 use Rattle.ifmap_changes.specs.Between.{state_now}
-use Rattle.ifmap_changes.specs.KeptLaws.{error_keeps}
+use Rattle.ifmap_changes.specs.KeptLaws.{stays_kept}
+use Rattle.ifmap_changes.proofs.Exits.{none_away}
 use Rattle.ifmap_changes.proofs.Taken.{can_settle, found_within, taken_canon, taken_told, taken_within}
 use Rattle.ifmap_changes.proofs.graph_changes.take_away_kept.Goals as goal
 
-pub make_kept-requires-clause-canon : goal.make_kept-requires-clause-canon
-make_kept-requires-clause-canon g c = taken_canon c.args.parts.now c.in_ok-plan.ensures.plan
+pub make_kept-requires : goal.make_kept-requires
+make_kept-requires g c = record {
+  can = record {
+    steady = c.requires.steady;
+    ready = c.requires.ready;
+    fits = c.in_ok-plan.ensures.plan.fits;
+    canon = taken_canon c.args.parts.now c.in_ok-plan.ensures.plan;
+  };
+}
 
-pub returns-in_err-plan-clause-kept : goal.returns-in_err-plan-clause-kept
-returns-in_err-plan-clause-kept g c = error_keeps c.from_residual.result c.args.parts.now c.requires.steady
+pub returns-in_err-plan-clause-takes : goal.returns-in_err-plan-clause-takes
+returns-in_err-plan-clause-takes g c =
+    none_away c.from_residual.result c.from_residual.ensures.0 (stays_kept c.args.parts.now c.requires.steady)
 
 pub returns-in_err-plan-clause-steps : goal.returns-in_err-plan-clause-steps
 returns-in_err-plan-clause-steps g c =
     found_within c.args.who.now (state_now c.args.asking.now c.args.parts.now c.args.pending.now) c.args.steps.now
     c.plan_retraction.new.steps c.plan_retraction.ensures.steps
 
-pub returns-clause-told : goal.returns-clause-told
-returns-clause-told g c =
-    taken_told c.args.parts.now c.in_ok-plan.ensures.plan c.make_kept.result c.args.asking.now c.args.pending.now
-    c.make_kept.new.pending c.make_kept.new.parts c.make_kept.ensures.told
+pub returns-clause-takes : goal.returns-clause-takes
+returns-clause-takes g c =
+    let e = c.make_kept.ensures.tells
+    in record {
+      told = taken_told c.args.parts.now c.in_ok-plan.ensures.plan c.make_kept.result c.args.asking.now c.args.pending.now
+          c.make_kept.new.pending c.make_kept.new.parts e.told;
+      kept = e.kept;
+    }
 
 pub returns-clause-settle : goal.returns-clause-settle
 returns-clause-settle g c =
-    where_value c.make_kept.result _ _ _ (λ made can _. can_settle made c.args.parts.now c.make_kept.new.parts can)
-    c.make_kept.ensures.back c.make_kept.ensures.numbers
+    IfOk-weaker c.make_kept.result _ _ (λ made ways. can_settle made c.args.parts.now c.make_kept.new.parts ways.back)
+    c.make_kept.ensures.ways
 
 pub returns-clause-steps : goal.returns-clause-steps
 returns-clause-steps g c =

@@ -24,7 +24,7 @@ left_without_session : (g : given.Over) (c : After-take_away g)
 left_without_session g c =
     subst (λ (l : List Standing). map standing_of (kept_items c.flag_session.new.pending.gone.items l)
     ≡ without_standing (c.args.serial ∷ []) (map standing_of (kept_items c.args.pending.now.gone.items l)))
-    c.deref.ensures.value c.flag_session.ensures.left
+    c.deref.ensures.value c.flag_session.ensures.flags.left
 
 serials : (g : given.Over) (c : After-take_away g) → c.push.new.self.items ≡ c.args.serial ∷ []
 serials g c = c.in_ok-push.ensures.items ∙ ap (λ (l : List ℕ). l ++ c.args.serial ∷ []) c.in_ok-serials.ensures.items
@@ -33,8 +33,8 @@ pub take_away-requires-clause-ready : goal.take_away-requires-clause-ready
 take_away-requires-clause-ready g c =
     let marked = c.flag_session.new.pending in
     flagged_ready c.args.asking.now c.args.parts.now c.args.pending.now marked
-    (subst (λ (l : List Standing). length marked.gone.items ≡ length l) c.deref.ensures.value c.flag_session.ensures.flags)
-    c.flag_session.ensures.stay c.flag_session.ensures.tellings c.requires.ready
+    (subst (λ (l : List Standing). length marked.gone.items ≡ length l) c.deref.ensures.value c.flag_session.ensures.flags.flags)
+    c.flag_session.ensures.flags.stay c.flag_session.ensures.flags.tellings c.requires.ready
 
 pub returns-clause-told : goal.returns-clause-told
 returns-clause-told g c =
@@ -46,7 +46,10 @@ returns-clause-told g c =
     (state_now c.args.asking.now c.args.parts.now marked))) (serials g place)
     ∙ ap (λ (s : State). overflow (tell rows [] s))
     (flagged_state (c.args.serial ∷ []) c.args.asking.now c.args.parts.now c.args.pending.now marked (left_without_session g place)
-    c.flag_session.ensures.tellings)) c.take_away.ensures.told
+    c.flag_session.ensures.flags.tellings)) c.take_away.ensures.takes.told
+
+pub returns-clause-kept : goal.returns-clause-kept
+returns-clause-kept g c = c.take_away.ensures.takes.kept
 
 pub returns-clause-bare : goal.returns-clause-bare
 returns-clause-bare g c =

@@ -30,7 +30,7 @@ returns-in_ok-take_away-in-Own-clause-leads g c =
     let client = ap (λ (x : Asking). x.client) c.asking.view_is in
     purges_own c.requires c.args.wish.now.id.now c.in-Own.serial c.in-Own.ensures c.take_away.new.parts c.take_away.new.pending
     e.changed.steady e.changed.ready e.changed.turned.sessions c.args.wish.now.asked.now _
-    (c.equals.ensures.0 c.if-not-equals.false ∙ c.text.ensures.text ∙ client) (c.in_ok-copy-in-Own.ensures ∙ client) e.told
+    (c.equals.ensures.0 c.if-not-equals.false ∙ c.text.ensures.text ∙ client) (c.in_ok-copy-in-Own.ensures ∙ client) e.takes.told
 
 pub returns-then-not-equals-clause-leads : goal.returns-then-not-equals-clause-leads
 returns-then-not-equals-clause-leads g c =

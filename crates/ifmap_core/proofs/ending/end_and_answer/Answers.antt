@@ -41,6 +41,14 @@ pending_without-requires-clause-rising g c =
     subst (IsStrictlySortedBy nat_cmp) (sym (c.deref.ensures.value ∙ c.serials.view_is ∙ c.in_ok-serials.ensures))
     (expired_rise c.args.time.now.moment c.args.time.now.ttl c.args.parts.now.sessions.live c.is_table.ensures.rising)
 
+pub answer_ended-requires-clause-can : goal.answer_ended-requires-clause-can
+answer_ended-requires-clause-can g c =
+    let e = c.in_ok-made.ensures.ways.changed in record { steady = e.steady; ready = e.ready }
+
+pub answer_ended-requires-clause-back : goal.answer_ended-requires-clause-back
+answer_ended-requires-clause-back g c =
+    let e = c.in_ok-made.ensures.ways in (c.args.parts.now, c.requires.parts, e.numbers, e.back)
+
 pub returns-in_err-serials-clause-answers : goal.returns-in_err-serials-clause-answers
 returns-in_err-serials-clause-answers g c =
     gives_up c.from_residual.result c.from_residual.ensures.0 (back_itself c.args.parts.now c.requires.parts.steady)
@@ -56,7 +64,7 @@ returns-in_err-pending-clause-answers g c =
 
 pub returns-in_err-made-clause-answers : goal.returns-in_err-made-clause-answers
 returns-in_err-made-clause-answers g c =
-    gives_up c.from_residual-in_err-made.result c.from_residual-in_err-made.ensures.0 c.in_err-made.ensures.kept.back
+    gives_up c.from_residual-in_err-made.result c.from_residual-in_err-made.ensures.0 c.in_err-made.ensures.takes.kept.back
 
 pub returns-clause-answers : goal.returns-clause-answers
 returns-clause-answers g c =
@@ -67,11 +75,11 @@ returns-clause-answers g c =
           (state_when c.args.time.now c.answer_ended.new.parts, answer) (step_ask s c.args.event.now c.args.event.now.ask)))
           (expires_by (state_when c.args.time.now old) c.deref.result.now c.in_ok-copy.field-0 c.requires.some
           (listed ∙ c.in_ok-serials.ensures) (c.in_ok-copy.ensures ∙ sym listed) _ _ c.in_ok-pending.ensures.state_now
-          c.in_ok-made.ensures.told) c.answer_ended.ensures.answer;
+          c.in_ok-made.ensures.takes.told) c.answer_ended.ensures.answer;
       kept = on_err_weaker {Q = AreBack old c.answer_ended.new.parts} c.answer_ended.result
-          (λ f. f old c.requires.parts c.in_ok-made.ensures.numbers c.in_ok-made.ensures.back) c.answer_ended.ensures.kept;
+          (λ f. f old c.requires.parts c.in_ok-made.ensures.ways.numbers c.in_ok-made.ensures.ways.back) c.answer_ended.ensures.kept;
       parts = c.answer_ended.ensures.parts;
-      lean = on_ok_weaker c.answer_ended.result (λ f. f old c.in_ok-made.ensures.back) c.answer_ended.ensures.lean;
+      lean = on_ok_weaker c.answer_ended.result (λ f. f old c.in_ok-made.ensures.ways.back) c.answer_ended.ensures.lean;
     }
 
 pub returns-in_err-serials-clause-steps : goal.returns-in_err-serials-clause-steps
@@ -98,4 +106,4 @@ returns-clause-steps g c =
     spent g (goal.at.returns-clause-steps g c).After-take_away_kept c.answer_ended.new.steps
     (subst (λ (s : State). IsAskWithin s c.args.event.now c.args.event.now.ask c.take_away_kept.new.steps c.answer_ended.new.steps)
     (expires_by before c.deref.result.now c.in_ok-copy.field-0 c.requires.some (listed ∙ c.in_ok-serials.ensures)
-    (c.in_ok-copy.ensures ∙ sym listed) _ _ c.in_ok-pending.ensures.state_now c.in_ok-made.ensures.told) c.answer_ended.ensures.steps)
+    (c.in_ok-copy.ensures ∙ sym listed) _ _ c.in_ok-pending.ensures.state_now c.in_ok-made.ensures.takes.told) c.answer_ended.ensures.steps)

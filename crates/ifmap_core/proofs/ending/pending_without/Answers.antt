@@ -13,7 +13,7 @@ use Rattle.ifmap_subscribes.specs.ifmap_tellings.Tellings.{kept_items}
 none : (c : After-flag_sessions) (n : ℕ) → get nat_cmp c.flag_sessions.new.pending.tellings n ≡ None
 none c =
     no_entry c.flag_sessions.new.pending.tellings
-    (ap (λ m. m.entries) c.flag_sessions.ensures.tellings ∙ c.in_ok-pending.ensures.none)
+    (ap (λ m. m.entries) c.flag_sessions.ensures.flags.tellings ∙ c.in_ok-pending.ensures.none)
 
 -- the subscriptions of the sessions that have expired are gone
 kept_without_ended : (c : After-flag_sessions)
@@ -22,7 +22,7 @@ kept_without_ended : (c : After-flag_sessions)
 kept_without_ended c =
     let first = c.in_ok-pending.ensures in
     begins_gone c.in_ok-pending.pending.gone.items c.flag_sessions.new.pending.gone.items _ c.args.asking.now.ended c.deref.result.now
-    c.args.parts.now.standing.items c.deref.ensures.value (ap (λ (a : Asking). a.ended) c.asking.view_is) c.flag_sessions.ensures.left
+    c.args.parts.now.standing.items c.deref.ensures.value (ap (λ (a : Asking). a.ended) c.asking.view_is) c.flag_sessions.ensures.flags.left
     first.gone (first.flags ∙ c.len.ensures ∙ c.args.parts.now.standing.ok.0)
 
 pub returns-clause-ready : goal.returns-clause-ready
@@ -30,7 +30,7 @@ returns-clause-ready c =
     let place = (goal.at.returns-clause-ready c).After-flag_sessions in
     begins_ready c.args.asking.now c.args.parts.now c.flag_sessions.new.pending c.requires.parts c.requires.ended
     (none place) (kept_without_ended place)
-    (c.flag_sessions.ensures.flags ∙ ap length c.deref.ensures.value)
+    (c.flag_sessions.ensures.flags.flags ∙ ap length c.deref.ensures.value)
 
 pub returns-clause-state_now : goal.returns-clause-state_now
 returns-clause-state_now c =

@@ -17,8 +17,8 @@ alone c = record {
   rows = refl;
   standing = refl;
   sessions = c.tell_alone.ensures.same;
-  told = λ s found. ap (λ m. get nat_cmp m c.args.serial) c.flag_session.ensures.tellings ∙ c.in_ok-tell_alone.ensures.told s found;
-  others = λ n other. ap (λ m. get nat_cmp m n) c.flag_session.ensures.tellings ∙ c.in_ok-tell_alone.ensures.others n other;
+  told = λ s found. ap (λ m. get nat_cmp m c.args.serial) c.flag_session.ensures.flags.tellings ∙ c.in_ok-tell_alone.ensures.told s found;
+  others = λ n other. ap (λ m. get nat_cmp m n) c.flag_session.ensures.flags.tellings ∙ c.in_ok-tell_alone.ensures.others n other;
 }
 
 pub tell_alone-requires : goal.tell_alone-requires
@@ -26,10 +26,10 @@ tell_alone-requires c = record { live = live_left c.args.asking.now c.args.seria
 
 pub returns-clause-told : goal.returns-clause-told
 returns-clause-told c =
-    alone_so_far (alone (goal.at.returns-clause-told c).After-flag_session) (rw (← c.deref.ensures.value) c.flag_session.ensures.left)
+    alone_so_far (alone (goal.at.returns-clause-told c).After-flag_session) (rw (← c.deref.ensures.value) c.flag_session.ensures.flags.left)
 
 pub returns-clause-ready : goal.returns-clause-ready
 returns-clause-ready c =
     alone_ready (alone (goal.at.returns-clause-ready c).After-flag_session) c.requires.ready
-    (rw (← c.deref.ensures.value) c.flag_session.ensures.flags) c.flag_session.ensures.stay
+    (rw (← c.deref.ensures.value) c.flag_session.ensures.flags.flags) c.flag_session.ensures.flags.stay
     (rw (← c.deref.ensures.value) c.flag_session.ensures.bare) c.in_ok-tell_alone.ensures.room
