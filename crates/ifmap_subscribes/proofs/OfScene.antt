@@ -1,7 +1,7 @@
 -- The session of a scene: it is found among those that are told, and what is so of a name before its operations is so of it.
-use Rattle.std.proofs.Common.{◌≡◌, refl, sym, ◌∙◌, ap, subst, ℕ, suc, ◌+◌, ◌<◌, add-one, List, ◌∷◌, drop, drop-cons, get_or, length, Option, None, Some}
+use Rattle.std.proofs.Common.{◌≡◌, refl, sym, ◌∙◌, ap, subst, ℕ, suc, ◌+◌, ◌<◌, add-one, List, ◌∷◌, drop, drop-cons, get_or, length, Option, None, Some, Result, Ok, Err}
 use Rattle.std.specs.Prelude.{option_and_then}
-use Rattle.std.specs.Prelude.{IsSome}
+use Rattle.std.specs.Prelude.{IsErrAnd, IsSome}
 use Rattle.std.proofs.lemmas.Bool.{false≢true}
 use Rattle.ifmap_changes.specs.Between.{sessions_left, state_now}
 use Rattle.ifmap_changes.specs.declared.parts.Parts.{Parts}
@@ -12,11 +12,13 @@ use Rattle.ifmap_search.specs.declared.results.PollItem.{PollItem}
 use Rattle.ifmap_search.specs.Sizes.{queue_size}
 use Rattle.ifmap_changes.specs.ifmap_session.Sessions.{IsLive, Session, session_with_serial}
 use Rattle.ifmap_subscribes.proofs.Ready.{told_same}
-use Rattle.ifmap_subscribes.specs.Readying.{IsNameBefore, OnlyHolds, queue_where, told_after, told_in_scene, told_then}
+use Rattle.ifmap_subscribes.specs.Readying.{CanReady, IsNameBefore, MakesReady, OnlyHolds, queue_where, told_after, told_in_scene, told_then}
 use Rattle.ifmap_subscribes.specs.declared.readying.Readying.{Readying}
 use Rattle.ifmap_subscribes.specs.Renamings.{IsNameNow, told_so_far}
 use Rattle.ifmap_subscribes.specs.declared.names.NameNow.{NameNow}
 use Rattle.ifmap_subscribes.specs.declared.readying.Occasion.{Occasion}
+use Rattle.ifmap_subscribes.specs.declared.readying.SubscribeError.{SubscribeError}
+use Rattle.ifmap_subscribes.specs.declared.readying.SubscribeError.TheVariants.{TooMany}
 use Rattle.ifmap_changes.specs.ifmap_tellings.Tellings.{tell_by}
 use Rattle.ifmap_changes.specs.ifmap_view.declared.attachments.Attachment.{Attachment}
 use Rattle.ifmap_changes.specs.ifmap_tellings.ToldLaws.{found_told}
@@ -56,6 +58,19 @@ name_told scene parts name v live h =
     let told = told_session scene parts one.0 one.1 in
     subst (λ t. IsNameNow scene.serial name t v) (sym told.1) (h (tell_by scene.pending.now.tellings one.0) told.0)
 
+-- after an error what was made ready is still, and no room for one operation is none for all
+pub makes_no_more : {X : Type 0} {becomes : Told → Option Told} {scene : Occasion} {old new : Parts} {before after : Readying}
+    (r : Result X SubscribeError) (error : SubscribeError) → IsErrAnd r (λ e. e ≡ error)
+    → (◌≡◌ {A = Result X SubscribeError} (Err error) (Err TooMany) → becomes (told_then scene old before) ≡ None)
+    → CanReady scene new after → OnlyHolds old new → MakesReady r becomes scene old new before after
+makes_no_more (Ok x) error is full can holds = absurd is
+makes_no_more (Err e) error is full can holds = record {
+  made = tt;
+  full = λ same. full (ap Err (sym is) ∙ same);
+  can = can;
+  holds = holds;
+}
+
 -- the operations that are left, after one
 pub one_op : (ops : List SubscribeOp) (i : ℕ) (op : SubscribeOp) (rows : List Attachment) (n : ℕ) (t : Told)
     → i < length ops → op ≡ get_or ops i op
@@ -86,3 +101,8 @@ module _ (scene : Occasion) (old new : Parts) (h : OnlyHolds old new) (ops : Lis
   rest_made all k e before =
       ap (subscribe_ops (rows_now old.graph) scene.serial (drop (i + 1) ops)) (sym (then_same k))
       ∙ sym (one_made (Some (told_then scene new k)) e) ∙ before
+
+  -- or there is no room for it, and then none for all
+  pub rest_full : (all : Option Told) → subscribe_op (rows_now new.graph) scene.serial op (told_then scene new r) ≡ None
+      → subscribe_ops (rows_now old.graph) scene.serial (drop i ops) (told_then scene old r) ≡ all → all ≡ None
+  rest_full all e before = sym before ∙ one_made None e

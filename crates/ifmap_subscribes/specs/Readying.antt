@@ -1,5 +1,5 @@
 -- The operations of a subscribe, while they are made ready.
-use Rattle.std.specs.Prelude.{◌≡◌, ◌≢◌, ◌≤◌, ◌<◌, ◌+◌, ◌-◌, ◌*◌, ◌^◌, ◌⊎◌, ◌++◌, ◌∷◌, ℕ, List, [], filter, is_some, length, Option, None, Some, option_to_list, if◌then◌else◌}
+use Rattle.std.specs.Prelude.{◌≡◌, ◌≢◌, ◌≤◌, ◌<◌, ◌+◌, ◌-◌, ◌*◌, ◌^◌, ◌⊎◌, ◌++◌, ◌∷◌, ℕ, Err, List, [], OnOk, Result, filter, is_some, length, Option, None, Some, option_to_list, if◌then◌else◌}
 use Rattle.std.specs.BTreeMap.{get}
 use Rattle.std.specs.Cmp.Lexicographic.{slice_cmp}
 use Rattle.std.specs.List.{AllByRecursion, list_any}
@@ -14,19 +14,24 @@ use Rattle.ifmap_changes.specs.ifmap_graph.Seen.{AwaitsMore, BringsNoNumbers, Is
 use Rattle.ifmap_ident.specs.declared.identifiers.Identifier.{Identifier}
 use Rattle.ifmap_ident.specs.Identifiers.{identifier_order}
 use Rattle.ifmap_changes.specs.ifmap_machine.State.{standing_in, standing_order}
-use Rattle.ifmap_changes.specs.ifmap_machine.Subscribing.{Told, is_of_name, most_names}
+use Rattle.ifmap_changes.specs.ifmap_machine.Subscribing.{Told, begin_name, drop_name, is_of_name, most_names}
 use Rattle.ifmap_changes.specs.ifmap_plans.Plans.{AreWhole}
+use Rattle.ifmap_changes.specs.ifmap_requests.Fit.{IsFitSearch}
 use Rattle.ifmap_changes.specs.ifmap_pool.Holdings.{key_at, once}
 use Rattle.ifmap_search.specs.declared.results.PollItem.{PollItem}
+use Rattle.ifmap_search.specs.declared.searches.Search.{Search}
 use Rattle.ifmap_search.specs.Sizes.{poll_size, queue_size}
 use Rattle.ifmap_changes.specs.ifmap_session.Sessions.{IsLive, Session, is_named, session_with_serial}
 use Rattle.ifmap_changes.specs.ifmap_standing.declared.standing.Standing.{Standing}
-use Rattle.ifmap_subscribes.specs.Renamings.{IsNameNow, IsOfSession, starts_by, rename_all}
+use Rattle.ifmap_subscribes.specs.Renamings.{IsNameNow, IsOfSession, rename, rename_all, starts_by}
 use Rattle.ifmap_subscribes.specs.declared.names.NameNow.{NameNow}
 use Rattle.ifmap_subscribes.specs.declared.readying.Readying.{Readying}
 use Rattle.ifmap_subscribes.specs.declared.readying.Occasion.{Occasion}
+use Rattle.ifmap_subscribes.specs.declared.readying.SubscribeError.{SubscribeError}
+use Rattle.ifmap_subscribes.specs.declared.readying.SubscribeError.TheVariants.{TooMany}
 use Rattle.ifmap_subscribes.specs.declared.renamings.Renaming.{Renaming}
 use Rattle.ifmap_changes.specs.ifmap_tellings.declared.tellings.Pending.{Pending}
+use Rattle.ifmap_changes.specs.ifmap_view.declared.attachments.Attachment.{Attachment}
 
 -- what a session has to tell, if it is live
 abbrev pub queue_where : Option Session → List PollItem
@@ -91,6 +96,12 @@ pub record CanReady (scene : Occasion) (parts : Parts) (readying : Readying) : T
   pub live : IsLive scene.serial (sessions_left scene.asking.now parts.sessions)
   pub readied : AreReadied scene.serial (told_in_scene scene parts) parts readying
 
+-- the first operation can be made ready: the graph is steady, what is so far is sound, and the session lives
+pub record CanReadyFirst (scene : Occasion) (parts : Parts) : Type 0 where
+  pub steady : IsSteady parts.graph parts.standing.items
+  pub ready : IsSoundSoFar scene.asking.now parts scene.pending.now
+  pub live : IsLive scene.serial (sessions_left scene.asking.now parts.sessions)
+
 -- identifiers are held, and nothing else that is seen changes
 pub record OnlyHolds (old new : Parts) : Type 0 where
   pub rows : rows_now new.graph ≡ rows_now old.graph
@@ -101,6 +112,22 @@ pub record OnlyHolds (old new : Parts) : Type 0 where
   pub lean : StaysLean old.graph new.graph
   pub sessions : new.sessions ≡ old.sessions
   pub standing : new.standing ≡ old.standing
+
+-- a subscription of a name to a search can be made ready: operations can, the search is fit, and this is so of the name
+pub record CanReadyUpdate (scene : Occasion) (parts : Parts) (readying : Readying) (name : List ℕ) (search : Search) (now : NameNow)
+    : Type 0 where
+  pub can : CanReady scene parts readying
+  pub fit : IsFitSearch search
+  pub before : IsNameNow scene.serial name (told_then scene parts readying) now
+
+-- what was made ready becomes, of what there is to tell, what operations make of it, or there is no room for a name where they make
+-- nothing; in both cases more can be made ready, and identifiers are held and nothing else that is seen changes
+pub record MakesReady {X : Type 0} (result : Result X SubscribeError) (becomes : Told → Option Told) (scene : Occasion) (old new : Parts)
+    (before after : Readying) : Type 0 where
+  pub made : OnOk result (becomes (told_then scene old before) ≡ Some (told_then scene old after))
+  pub full : result ≡ Err TooMany → becomes (told_then scene old before) ≡ None
+  pub can : CanReady scene new after
+  pub holds : OnlyHolds old new
 
 -- what was held is let go of again: all is steady, and nothing else that is seen changes
 pub record IsGivenUp (old new : Parts) : Type 0 where
@@ -143,6 +170,14 @@ pub record IsHolding (h : GraphInside) (standing : List Standing) (number : ℕ)
 -- the item of a renaming is of a size that is counted
 abbrev pub IsSmall : Renaming → Type 0
 IsSmall r = AllByRecursion (λ item. poll_size item < 2 ^ 64 - 1) (option_to_list r.item)
+
+-- a renaming begins the subscription of a name to a search: it makes of what there is to tell what the definition makes of it, it is of
+-- the session, and its item is of a size that is counted
+pub record BeginsName (rows : List Attachment) (serial : ℕ) (name : List ℕ) (search : Search) (renaming : Renaming) : Type 0 where
+  pub begun : (t : Told) → rename serial renaming t ≡ begin_name rows serial name search (drop_name serial name t)
+  pub named : renaming.name ≡ name
+  pub session : IsOfSession serial renaming
+  pub small : IsSmall renaming
 
 -- what is so of a name after its renaming
 abbrev pub now_of : Renaming → NameNow

@@ -1,5 +1,5 @@
 -- What becomes of the names of a subscribe, once all is ready.
-use Rattle.std.specs.Prelude.{◌≡◌, ◌+◌, ◌≤◌, ◌++◌, ℕ, List, [], ◌∷◌, filter, flat_map, length, map, Option, None, Some, option_to_list, sum_by, vec_capacity, vec_len}
+use Rattle.std.specs.Prelude.{◌≡◌, ◌+◌, ◌≤◌, ◌++◌, ℕ, false, List, [], ◌∷◌, filter, flat_map, length, map, Option, None, Some, option_to_list, sum_by, vec_capacity, vec_len}
 use Rattle.std.specs.Cmp.Lexicographic.{slice_cmp}
 use Rattle.std.specs.List.{AllByRecursion, list_any}
 use Rattle.std.specs.List.Sorted.{IsStrictlySortedBy}
@@ -14,6 +14,7 @@ use Rattle.ifmap_changes.specs.ifmap_delta.Sights.{IsUpToDate}
 use Rattle.ifmap_changes.specs.ifmap_machine.State as machine
 use Rattle.ifmap_changes.specs.ifmap_machine.State.{standing_order}
 use Rattle.ifmap_changes.specs.ifmap_machine.Subscribing.{Told, drop_name, is_of_name}
+use Rattle.ifmap_changes.specs.ifmap_machine.Telling.{is_overfull}
 use Rattle.ifmap_changes.specs.ifmap_plans.Placing.{put}
 use Rattle.ifmap_changes.specs.ifmap_pool.Holdings.{key_at}
 use Rattle.ifmap_search.specs.Sizes.{queue_size}
@@ -21,6 +22,7 @@ use Rattle.ifmap_changes.specs.ifmap_session.Sessions.{IsLive, Session, change, 
 use Rattle.ifmap_changes.specs.ifmap_standing.declared.standing.Standing.{Standing}
 use Rattle.ifmap_changes.specs.ifmap_standing.Standing.{standing_of}
 use Rattle.ifmap_changes.specs.ifmap_tellings.declared.tellings.Pending.{Pending}
+use Rattle.ifmap_changes.specs.ifmap_tellings.Tellings.{EachTelling, IsSized, Tellings}
 use Rattle.ifmap_changes.specs.ifmap_graph.Inside.{GraphInside}
 use Rattle.ifmap_changes.specs.ifmap_graph.Back.{KeepsBacks}
 use Rattle.ifmap_changes.specs.ifmap_graph.Seen.{AwaitsMore, BringsNoNumbers, StaysLean, links_now, rows_now}
@@ -84,6 +86,13 @@ StandsAmong begun old new =
 pub record IsNameNow (serial : ℕ) (name : List ℕ) (t : Told) (now : NameNow) : Type 0 where
   pub stands : now.stands ≡ list_any (is_of_name serial name) t.standing
   pub size : now.size ≡ queue_size (filter (is_named name) t.queue)
+
+-- sizes are exact, of the queue of a session and of what is pending: the session lives, what is pending of sessions has its size, and
+-- no queue is greater than its limit
+pub record HasExactSizes (serial : ℕ) (sessions : List Session) (tellings : Tellings) : Type 0 where
+  pub live : IsLive serial sessions
+  pub sized : EachTelling (λ n t. IsSized n t sessions) tellings
+  pub within : AllByRecursion (λ s. is_overfull s ≡ false) sessions
 
 -- what a session has to tell and the subscriptions that stand, as parts have them
 abbrev pub told_in_parts : Parts → Session → Told

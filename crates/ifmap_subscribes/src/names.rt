@@ -3,8 +3,8 @@ ghost use Rattle.std.specs.Prelude.{◌≡◌, Some, false, filter, length, map}
 ghost use Rattle.std.specs.List.{AllByRecursion, list_any};
 ghost use Rattle.std.specs.List.Sorted.{IsStrictlySortedBy};
 ghost use Rattle.ifmap_changes.specs.Between.{IsSoundSoFar, sessions_left, state_now};
-ghost use Rattle.ifmap_subscribes.specs.Renamings.{IsNameNow, told_so_far};
-ghost use Rattle.ifmap_changes.specs.ifmap_tellings.Tellings.{EachTelling, IsSized, kept_items, tell_by};
+ghost use Rattle.ifmap_subscribes.specs.Renamings.{HasExactSizes, IsNameNow, told_so_far};
+ghost use Rattle.ifmap_changes.specs.ifmap_tellings.Tellings.{kept_items, tell_by};
 ghost use Rattle.ifmap_changes.specs.ifmap_machine.State.{standing_in, standing_order};
 ghost use Rattle.ifmap_changes.specs.ifmap_machine.Subscribing.{is_of_name};
 ghost use Rattle.ifmap_changes.specs.ifmap_machine.Telling.{is_overfull};
@@ -69,9 +69,7 @@ fn told_size(
     serial: u64,
     name: &Text,
 ) -> u128
-    requires live { IsLive serial sessions.now.live }
-    requires sized { EachTelling (λ n t. IsSized n t sessions.now.live) tellings.now }
-    requires within { AllByRecursion (λ s. is_overfull s ≡ false) sessions.now.live }
+    requires sizes { HasExactSizes serial sessions.now.live tellings.now }
     ensures { (s : Session) → session_with_serial serial sessions.now.live ≡ Some s
         → result ≡ queue_size (filter (is_named name.now) (tell_by tellings.now s).queue) }
 {
@@ -99,9 +97,7 @@ fn queued_size(sessions: &Sessions, serial: u64, name: &Text) -> u64
 
 // The size of what a session is to be told, once it is told what is pending.
 pub(crate) fn whole_size(sessions: &Sessions, tellings: &BTreeMap<u64, Telling>, serial: u64) -> u64
-    requires live { IsLive serial sessions.now.live }
-    requires sized { EachTelling (λ n t. IsSized n t sessions.now.live) tellings.now }
-    requires within { AllByRecursion (λ s. is_overfull s ≡ false) sessions.now.live }
+    requires sizes { HasExactSizes serial sessions.now.live tellings.now }
     ensures { (s : Session) → session_with_serial serial sessions.now.live ≡ Some s
         → result ≡ queue_size (tell_by tellings.now s).queue }
 {

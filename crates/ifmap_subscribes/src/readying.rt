@@ -4,16 +4,15 @@ ghost use Rattle.std.specs.BTreeMap.{get};
 ghost use Rattle.std.specs.Cmp.Lexicographic.{slice_cmp};
 ghost use Rattle.std.specs.List.{AllByRecursion};
 ghost use Rattle.std.specs.Ordering.{nat_cmp};
-ghost use Rattle.ifmap_changes.specs.Between.{IsSoundSoFar, IsSteady, sessions_left};
+ghost use Rattle.ifmap_changes.specs.Between.{IsSoundSoFar};
 ghost use Rattle.ifmap_changes.specs.ifmap_graph.Seen.{rows_now};
-ghost use Rattle.ifmap_changes.specs.ifmap_machine.Subscribing.{Told, most_names, subscribe_op, subscribe_ops};
+ghost use Rattle.ifmap_changes.specs.ifmap_machine.Subscribing.{most_names, subscribe_op, subscribe_ops};
 ghost use Rattle.ifmap_changes.specs.ifmap_machine.Subscribing as machine;
 ghost use Rattle.ifmap_changes.specs.ifmap_requests.Fit.{IsFitSearch, IsFitSubscribeOp};
 ghost use Rattle.ifmap_changes.specs.ifmap_requests.declared.requests.SubscribeOp.TheVariants as the_op;
-ghost use Rattle.ifmap_changes.specs.ifmap_session.Sessions.{IsLive};
 ghost use Rattle.ifmap_subscribes.specs.Bounds.{AreOpsWithin, IsOpWithin, IsWithinSpan};
-ghost use Rattle.ifmap_subscribes.specs.Readying.{CanReady, CanStand, IsAdded, IsGivenUp, IsNoted, IsSmall, OnlyHolds, most_ops, now_of, told_in_scene, told_then};
-ghost use Rattle.ifmap_subscribes.specs.Renamings.{IsNameNow, rename};
+ghost use Rattle.ifmap_subscribes.specs.Readying.{BeginsName, CanReady, CanReadyFirst, CanReadyUpdate, CanStand, IsAdded, IsGivenUp, IsNoted, IsSmall, MakesReady, OnlyHolds, most_ops, now_of, told_in_scene, told_then};
+ghost use Rattle.ifmap_subscribes.specs.Renamings.{IsNameNow};
 ghost use Rattle.ifmap_subscribes.specs.declared.readying.SubscribeError.TheVariants as the_error;
 
 use crate::names::{NameNow, count_standing, name_before, whole_size};
@@ -77,10 +76,7 @@ pub fn ready_ops<L: Ledger>(
     ops: &Many<SubscribeOp>,
     steps: &mut Steps<L>,
 ) -> Result<Readying, SubscribeError>
-    requires steady { IsSteady parts.old.graph parts.old.standing.items }
-    requires ready { IsSoundSoFar scene.now.asking.now parts.old scene.now.pending.now }
-    requires live { IsLive scene.now.serial
-        (sessions_left scene.now.asking.now parts.old.sessions) }
+    requires first { CanReadyFirst scene.now parts.old }
     requires fit { AllByRecursion IsFitSubscribeOp ops.now }
     ensures ops { IfOk result (λ readying. subscribe_ops (rows_now parts.old.graph)
         scene.now.serial ops.now (told_in_scene scene.now parts.old)
@@ -107,10 +103,7 @@ pub fn ready_ops<L: Ledger>(
 
 // No operation is made ready yet.
 fn nothing_ready(alloc: Global, parts: &Parts, scene: &Occasion<'_>) -> Readying
-    requires steady { IsSteady parts.now.graph parts.now.standing.items }
-    requires ready { IsSoundSoFar scene.now.asking.now parts.now scene.now.pending.now }
-    requires live { IsLive scene.now.serial
-        (sessions_left scene.now.asking.now parts.now.sessions) }
+    requires { CanReadyFirst scene.now parts.now }
     ensures none { result.made.items ≡ [] }
     ensures can { CanReady scene.now parts.now result }
 {
@@ -144,13 +137,9 @@ fn ready_all<L: Ledger>(
 ) -> Result<(), SubscribeError>
     requires can { CanReady scene.now parts.old readying.old }
     requires fit { AllByRecursion IsFitSubscribeOp ops.now }
-    ensures ops { OnOk result (subscribe_ops (rows_now parts.old.graph) scene.now.serial ops.now
-        (told_then scene.now parts.old readying.old)
-        ≡ Some (told_then scene.now parts.old readying.new)) }
-    ensures full { result ≡ Err the_error.TooMany → subscribe_ops (rows_now parts.old.graph)
-        scene.now.serial ops.now (told_then scene.now parts.old readying.old) ≡ None }
-    ensures can { CanReady scene.now parts.new readying.new }
-    ensures holds { OnlyHolds parts.old parts.new }
+    ensures makes { MakesReady result
+        (subscribe_ops (rows_now parts.old.graph) scene.now.serial ops.now) scene.now parts.old
+        parts.new readying.old readying.new }
     ensures steps { AreOpsWithin (rows_now parts.old.graph) ops.now steps.old steps.new }
 {
     for op in &ops.0 {
@@ -170,13 +159,9 @@ fn ready_op<L: Ledger>(
 ) -> Result<(), SubscribeError>
     requires can { CanReady scene.now parts.old readying.old }
     requires fit { IsFitSubscribeOp op.now }
-    ensures op { OnOk result (subscribe_op (rows_now parts.old.graph) scene.now.serial op.now
-        (told_then scene.now parts.old readying.old)
-        ≡ Some (told_then scene.now parts.old readying.new)) }
-    ensures full { result ≡ Err the_error.TooMany → subscribe_op (rows_now parts.old.graph)
-        scene.now.serial op.now (told_then scene.now parts.old readying.old) ≡ None }
-    ensures can { CanReady scene.now parts.new readying.new }
-    ensures holds { OnlyHolds parts.old parts.new }
+    ensures makes { MakesReady result
+        (subscribe_op (rows_now parts.old.graph) scene.now.serial op.now) scene.now parts.old
+        parts.new readying.old readying.new }
     ensures steps { IsOpWithin (rows_now parts.old.graph) op.now steps.old steps.new }
 {
     match op {
@@ -213,19 +198,11 @@ fn ready_update<L: Ledger>(
     readying: &mut Readying,
     steps: &mut Steps<L>,
 ) -> Result<(), SubscribeError>
-    requires can { CanReady scene.now parts.old readying.old }
-    requires fit { IsFitSearch wish.now.search.now }
-    requires before { IsNameNow scene.now.serial wish.now.name.now
-        (told_then scene.now parts.old readying.old) wish.now.before }
-    ensures op { OnOk result (subscribe_op (rows_now parts.old.graph) scene.now.serial
-        (the_op.Update wish.now.name.now wish.now.search.now)
-        (told_then scene.now parts.old readying.old)
-        ≡ Some (told_then scene.now parts.old readying.new)) }
-    ensures full { result ≡ Err the_error.TooMany → subscribe_op (rows_now parts.old.graph)
-        scene.now.serial (the_op.Update wish.now.name.now wish.now.search.now)
-        (told_then scene.now parts.old readying.old) ≡ None }
-    ensures can { CanReady scene.now parts.new readying.new }
-    ensures holds { OnlyHolds parts.old parts.new }
+    requires { CanReadyUpdate scene.now parts.old readying.old wish.now.name.now
+        wish.now.search.now wish.now.before }
+    ensures makes { MakesReady result (subscribe_op (rows_now parts.old.graph) scene.now.serial
+        (the_op.Update wish.now.name.now wish.now.search.now)) scene.now parts.old parts.new
+        readying.old readying.new }
     ensures steps { IsWithinSpan 4 (rows_now parts.old.graph) wish.now.search.now steps.old
         steps.new }
 {
@@ -285,10 +262,8 @@ fn begin_ready<L: Ledger>(
     readying: &mut Readying,
     steps: &mut Steps<L>,
 ) -> Result<(), NoMemory>
-    requires can { CanReady scene.now parts.old readying.old }
-    requires fit { IsFitSearch wish.now.search.now }
-    requires before { IsNameNow scene.now.serial wish.now.name.now
-        (told_then scene.now parts.old readying.old) wish.now.before }
+    requires update { CanReadyUpdate scene.now parts.old readying.old wish.now.name.now
+        wish.now.search.now wish.now.before }
     requires room { machine.is_full_for scene.now.serial wish.now.name.now
         (told_then scene.now parts.old readying.old).standing ≡ false }
     ensures op { OnOk result (machine.begin_name (rows_now parts.old.graph) scene.now.serial
@@ -319,11 +294,8 @@ fn begin_beside<L: Ledger>(
     requires stand { CanStand scene.now.serial parts.old made.now }
     requires most { length made.now ≤ most_ops }
     requires fit { IsFitSearch wish.now.search.now }
-    ensures begun { IfOk result (λ renaming. (t : Told) → rename scene.now.serial renaming t
-        ≡ machine.begin_name (rows_now parts.old.graph) scene.now.serial wish.now.name.now
-        wish.now.search.now (machine.drop_name scene.now.serial wish.now.name.now t)) }
-    ensures name { IfOk result (λ renaming. renaming.name ≡ wish.now.name.now) }
-    ensures small { IfOk result IsSmall }
+    ensures begins { IfOk result (BeginsName (rows_now parts.old.graph) scene.now.serial
+        wish.now.name.now wish.now.search.now) }
     ensures stand { IfOk result (λ renaming. CanStand scene.now.serial parts.new
         (made.now ++ renaming ∷ [])) }
     ensures err { OnErr result (CanStand scene.now.serial parts.new made.now) }

@@ -1,10 +1,9 @@
 //! What becomes of the names of a subscribe, once all is ready.
-ghost use Rattle.std.specs.Prelude.{◌≡◌, ◌≤◌, ◌+◌, ◌++◌, ◌∷◌, ℕ, List, [], Some, true, false, IfErr, IfOk, IfSome, OnErr, filter, length, map, not, option_to_list, slice_get, vec_capacity, vec_len};
+ghost use Rattle.std.specs.Prelude.{◌≡◌, ◌≤◌, ◌+◌, ◌++◌, ◌∷◌, List, [], Some, true, false, IfErr, IfOk, IfSome, OnErr, filter, length, map, not, option_to_list, slice_get, vec_capacity, vec_len};
 ghost use Rattle.std.specs.List.{insert, list_any};
 ghost use Rattle.std.specs.List.Sorted.{IsStrictlySortedBy};
 ghost use Rattle.ifmap_changes.specs.Between.{IsSteady};
-ghost use Rattle.ifmap_changes.specs.ifmap_graph.Back.{KeepsBacks};
-ghost use Rattle.ifmap_changes.specs.ifmap_graph.Seen.{AwaitsMore, BringsNoNumbers, StaysLean, links_now, rows_now};
+ghost use Rattle.ifmap_changes.specs.ifmap_graph.Seen.{StaysLean, rows_now};
 ghost use Rattle.ifmap_changes.specs.ifmap_machine.State.{standing_order};
 ghost use Rattle.ifmap_changes.specs.ifmap_machine.Subscribing.{is_of_name};
 ghost use Rattle.ifmap_changes.specs.ifmap_machine.Telling.{tell_session};
@@ -39,13 +38,7 @@ pub fn release_all(graph: &mut Graph, renamings: Many<Renaming>)
     requires { (standing : List Standing) × IsSteady graph.old (standing ++ starts_by renamings) }
     ensures steady { (standing : List Standing)
         → IsSteady graph.old (standing ++ starts_by renamings) → IsSteady graph.new standing }
-    ensures rows { rows_now graph.new ≡ rows_now graph.old }
-    ensures links { (v : ℕ) → links_now graph.new v ≡ links_now graph.old v }
-    ensures numbers { BringsNoNumbers graph.old graph.new }
-    ensures backs { KeepsBacks graph.old graph.new }
-    ensures waits { AwaitsMore [] graph.old graph.new }
-    ensures lean { StaysLean graph.old graph.new }
-    ensures kept { KeepsNumbered graph.old graph.new }
+    ensures lets_go { LetsNumbersGo graph.old graph.new }
 {
     for renaming in renamings.0 {
         release_where(graph, &renaming);

@@ -5,8 +5,6 @@ ghost use Rattle.ifmap_changes.specs.Between.{IsSteady, sight_now};
 ghost use Rattle.ifmap_changes.specs.ifmap_delta.Sights.{IsUpToDate};
 ghost use Rattle.ifmap_changes.specs.ifmap_graph.Seen.{HasFewOwn, rows_now};
 ghost use Rattle.ifmap_ident.specs.declared.codes.Code.TheVariants.{SearchResultsTooBig};
-ghost use Rattle.ifmap_changes.specs.ifmap_machine.Subscribing as machine;
-ghost use Rattle.ifmap_changes.specs.ifmap_machine.Subscribing.{Told, begin_name};
 ghost use Rattle.ifmap_changes.specs.ifmap_machine.Telling.{limit_note};
 ghost use Rattle.ifmap_changes.specs.ifmap_pool.Holdings.{holds_at, key_at};
 ghost use Rattle.ifmap_changes.specs.ifmap_requests.Fit.{IsFitSearch};
@@ -14,8 +12,7 @@ ghost use Rattle.ifmap_search.specs.declared.results.PollItem.TheVariants as the
 ghost use Rattle.ifmap_search.specs.Sizes.{entries_size};
 ghost use Rattle.ifmap_changes.specs.ifmap_standing.declared.standing.Standing.{Standing};
 ghost use Rattle.ifmap_subscribes.specs.Bounds.{IsWithinSpan};
-ghost use Rattle.ifmap_subscribes.specs.Readying.{GraphHolds, IsHolding, IsReleased, IsSmall};
-ghost use Rattle.ifmap_subscribes.specs.Renamings.{IsOfSession, rename};
+ghost use Rattle.ifmap_subscribes.specs.Readying.{BeginsName, GraphHolds, IsHolding, IsReleased, IsSmall};
 
 use crate::renamings::Renaming;
 use ifmap_changes::{Graph, Standing, Subscribed, Subscription, View, subscribe, too_big_item};
@@ -46,12 +43,8 @@ pub(crate) fn begin_name<L: Ledger>(
     requires few { HasFewOwn graph.old }
     requires fit { IsFitSearch wanted.now.search.now }
     requires steady { (standing : List Standing) × IsSteady graph.old standing }
-    ensures begun { IfOk result (λ renaming. (t : Told) → rename wanted.now.serial renaming t
-        ≡ begin_name (rows_now graph.old) wanted.now.serial wanted.now.name.now
-        wanted.now.search.now (machine.drop_name wanted.now.serial wanted.now.name.now t)) }
-    ensures name { IfOk result (λ renaming. renaming.name ≡ wanted.now.name.now) }
-    ensures session { IfOk result (IsOfSession wanted.now.serial) }
-    ensures small { IfOk result IsSmall }
+    ensures begins { IfOk result (BeginsName (rows_now graph.old) wanted.now.serial
+        wanted.now.name.now wanted.now.search.now) }
     ensures kept { IfOk result (λ renaming. AllByRecursion
         (λ x. IsUpToDate (sight_now graph.new) x.subscription) (option_to_list renaming.standing)) }
     ensures steady { IfOk result (λ renaming. (standing : List Standing)
@@ -115,12 +108,8 @@ fn begin_at<L: Ledger>(
 ) -> Result<Renaming, NoMemory>
     requires fit { IsFitSearch wanted.now.search.now }
     requires start { key_at graph.now.names number ≡ Some wanted.now.search.now.start }
-    ensures begun { IfOk result (λ renaming. (t : Told) → rename wanted.now.serial renaming t
-        ≡ begin_name (rows_now graph.now) wanted.now.serial wanted.now.name.now
-        wanted.now.search.now (machine.drop_name wanted.now.serial wanted.now.name.now t)) }
-    ensures name { IfOk result (λ renaming. renaming.name ≡ wanted.now.name.now) }
-    ensures session { IfOk result (IsOfSession wanted.now.serial) }
-    ensures small { IfOk result IsSmall }
+    ensures begins { IfOk result (BeginsName (rows_now graph.now) wanted.now.serial
+        wanted.now.name.now wanted.now.search.now) }
     ensures kept { IfOk result (λ renaming. AllByRecursion
         (λ x. (x.subscription.search ≡ wanted.now.search.now)
         × (x.subscription.region.start ≡ number)

@@ -16,19 +16,20 @@ returns-clause-ready c =
     ready_there c.args.asking.now old (record { graph = c.release_all.new.graph; sessions = old.sessions; standing = old.standing })
     c.args.pending.now refl refl
     (keeps_there c.same_links_keep_subscriptions.ensures old.graph c.release_all.new.graph c.is_view.ensures c.is_view-2.ensures
-    c.release_all.ensures.rows c.release_all.ensures.links (shares_fewer old.graph c.release_all.new.graph c.release_all.ensures.numbers))
+    c.release_all.ensures.lets_go.rows c.release_all.ensures.lets_go.links
+    (shares_fewer old.graph c.release_all.new.graph c.release_all.ensures.lets_go.numbers))
     (c.release_all.ensures.steady old.standing.items c.requires.steady) c.requires.ready
 
 pub returns-clause-state_now : goal.returns-clause-state_now
 returns-clause-state_now c =
     let old = c.args.parts.now in
     same_so_far c.args.asking.now old (record { graph = c.release_all.new.graph; sessions = old.sessions; standing = old.standing })
-    c.args.pending.now c.release_all.ensures.rows (same_sessions_itself old.sessions) refl
+    c.args.pending.now c.release_all.ensures.lets_go.rows (same_sessions_itself old.sessions) refl
 
 pub returns-clause-turned : goal.returns-clause-turned
 returns-clause-turned c = record {
-  waits = c.release_all.ensures.waits;
-  lean = c.release_all.ensures.lean;
+  waits = c.release_all.ensures.lets_go.waits;
+  lean = c.release_all.ensures.lets_go.lean;
   searches = searched_itself c.args.parts.now.standing.items;
   sessions = same_sessions_itself c.args.parts.now.sessions;
 }
@@ -37,12 +38,12 @@ pub returns-clause-kept : goal.returns-clause-kept
 returns-clause-kept c = record {
   back = record {
     steady = c.release_all.ensures.steady c.args.parts.now.standing.items c.requires.steady;
-    rows = c.release_all.ensures.rows;
-    links = c.release_all.ensures.links;
-    numbers = shares_fewer c.args.parts.now.graph c.release_all.new.graph c.release_all.ensures.numbers;
-    lean = c.release_all.ensures.lean;
+    rows = c.release_all.ensures.lets_go.rows;
+    links = c.release_all.ensures.lets_go.links;
+    numbers = shares_fewer c.args.parts.now.graph c.release_all.new.graph c.release_all.ensures.lets_go.numbers;
+    lean = c.release_all.ensures.lets_go.lean;
     standing = kept_itself c.args.parts.now.standing.items;
     sessions = same_sessions_itself c.args.parts.now.sessions;
   };
-  backs = c.release_all.ensures.backs;
+  backs = c.release_all.ensures.lets_go.backs;
 }

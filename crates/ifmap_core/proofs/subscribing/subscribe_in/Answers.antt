@@ -5,6 +5,12 @@ use Rattle.ifmap_core.specs.Answering.{GivesCompletion}
 use Rattle.ifmap_subscribes.specs.ifmap_graph.Seen.{rows_now}
 use Rattle.ifmap_subscribes.specs.ifmap_machine.Subscribing.{subscribe_ops}
 
+pub ready_ops-requires : goal.ready_ops-requires
+ready_ops-requires g c = record {
+  first = record { steady = c.requires.can.steady; ready = c.requires.can.ready; live = c.requires.live };
+  fit = c.requires.fit;
+}
+
 pub returns-in-Ok-clause-leads : goal.returns-in-Ok-clause-leads
 returns-in-Ok-clause-leads g c = λ s e.
     let a = c.args.asking.now in

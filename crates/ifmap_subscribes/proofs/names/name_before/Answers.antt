@@ -7,13 +7,15 @@ use Rattle.ifmap_changes.specs.ifmap_session.Sessions.{Session, is_named}
 use Rattle.ifmap_subscribes.proofs.ToldSizes.{found_before, found_left, live_before}
 use Rattle.ifmap_subscribes.proofs.names.name_before.Goals as goal
 
-pub told_size-requires-clause-live : goal.told_size-requires-clause-live
-told_size-requires-clause-live c =
-    live_before c.args.asking.now.ended c.args.serial c.args.parts.now.sessions.live c.requires.live
-
-pub told_size-requires-clause-within : goal.told_size-requires-clause-within
-told_size-requires-clause-within c =
-    all_weaker IsWithinLimit (λ (s : Session). is_overfull s ≡ false) (λ s w. w.full) c.args.parts.now.sessions.live c.requires.ready.queues
+pub told_size-requires : goal.told_size-requires
+told_size-requires c = record {
+  sizes = record {
+    live = live_before c.args.asking.now.ended c.args.serial c.args.parts.now.sessions.live c.requires.live;
+    sized = c.requires.ready.sized;
+    within = all_weaker IsWithinLimit (λ (s : Session). is_overfull s ≡ false) (λ s w. w.full) c.args.parts.now.sessions.live
+        c.requires.ready.queues;
+  };
+}
 
 pub returns : goal.returns
 returns c = λ s e.

@@ -17,7 +17,7 @@ returns-in-Some-After c = λ s e.
     let items = c.in-Some-After.items in
     let size = c.in-Some-After.field-0-1 in
     after_of_name c.args.tellings.now c.args.serial c.args.sessions.now.live s e items size there
-    (c.requires.sized c.args.serial (After items size) there) c.args.name.now c.queued_size-queued.result c.named_size.result
+    (c.requires.sizes.sized c.args.serial (After items size) there) c.args.name.now c.queued_size-queued.result c.named_size.result
     (c.queued_size-queued.ensures s e) (rw c.as_slice.ensures at c.named_size.ensures)
 
 pub returns-in-Some-Alone : goal.returns-in-Some-Alone
@@ -25,4 +25,4 @@ returns-in-Some-Alone c = λ s e.
     let there = sym c.in-Some-Alone.ensures.value ∙ ap Some c.in-Some-Alone.field-0-is in
     let error = c.in-Some-Alone.field-0-0 in
     alone_of_name c.args.tellings.now c.args.serial c.args.sessions.now.live s e error there
-    (c.requires.sized c.args.serial (Alone error) there) c.args.name.now
+    (c.requires.sizes.sized c.args.serial (Alone error) there) c.args.name.now

@@ -6,8 +6,9 @@ use Rattle.ifmap_changes.specs.Between.{IsSteady, sight_now}
 use Rattle.ifmap_changes.specs.ifmap_delta.Sights.{IsUpToDate}
 use Rattle.ifmap_changes.specs.ifmap_standing.declared.standing.Standing.{Standing}
 use Rattle.ifmap_subscribes.proofs.Ready.{few_own, stand_more, stand_still, stays_ready}
-use Rattle.ifmap_subscribes.specs.Readying.{CanStand}
-use Rattle.ifmap_subscribes.specs.Renamings.{IsOfSession, starts_by}
+use Rattle.ifmap_changes.specs.ifmap_graph.Seen.{rows_now}
+use Rattle.ifmap_subscribes.specs.Readying.{BeginsName, CanStand}
+use Rattle.ifmap_subscribes.specs.Renamings.{starts_by}
 use Rattle.ifmap_subscribes.proofs.readying.begin_beside.Goals as goal
 
 pub begin_name-begun-requires-clause-few : goal.begin_name-begun-requires-clause-few
@@ -23,11 +24,13 @@ returns-clause-stand g c =
     let n = c.args.scene.now.serial in
     let h = c.begin_name-begun.new.graph in
     let e = c.begin_name-begun.ensures in
-    of_three (λ r. IsOfSession n r) (λ r. AllByRecursion (λ x. IsUpToDate (sight_now h) x.subscription) (option_to_list r.standing))
+    let wish = c.args.wish.now in
+    of_three (BeginsName (rows_now p.graph) n wish.name.now wish.search.now)
+    (λ r. AllByRecursion (λ x. IsUpToDate (sight_now h) x.subscription) (option_to_list r.standing))
     (λ r. (standing : List Standing) → IsSteady p.graph standing → IsSteady h (standing ++ option_to_list r.standing))
-    (λ r. CanStand n (record p { graph = h }) (made ++ r ∷ [])) c.begin_name-begun.result e.session e.kept e.steady
-    (λ r s k steady. stand_more c.same_links_keep_subscriptions.ensures n p h made c.is_view.ensures c.is_view-2.ensures e.holds
-    c.requires.stand r s k (steady (p.standing.items ++ starts_by made) c.requires.stand.steady))
+    (λ r. CanStand n (record p { graph = h }) (made ++ r ∷ [])) c.begin_name-begun.result e.begins e.kept e.steady
+    (λ r begins k steady. stand_more c.same_links_keep_subscriptions.ensures n p h made c.is_view.ensures c.is_view-2.ensures e.holds
+    c.requires.stand r begins.session k (steady (p.standing.items ++ starts_by made) c.requires.stand.steady))
 
 pub returns-clause-err : goal.returns-clause-err
 returns-clause-err g c =

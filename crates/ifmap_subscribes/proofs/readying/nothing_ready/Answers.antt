@@ -12,13 +12,15 @@ use Rattle.ifmap_subscribes.proofs.ToldSizes.{live_before}
 use Rattle.ifmap_subscribes.specs.declared.readying.Readying.{Readying}
 use Rattle.ifmap_subscribes.proofs.readying.nothing_ready.Goals as goal
 
-pub whole_size-requires-clause-live : goal.whole_size-requires-clause-live
-whole_size-requires-clause-live c =
-    live_before c.args.scene.now.asking.now.ended c.args.scene.now.serial c.args.parts.now.sessions.live c.requires.live
-
-pub whole_size-requires-clause-within : goal.whole_size-requires-clause-within
-whole_size-requires-clause-within c =
-    all_weaker IsWithinLimit (λ (s : Session). is_overfull s ≡ false) (λ s w. w.full) c.args.parts.now.sessions.live c.requires.ready.queues
+pub whole_size-requires : goal.whole_size-requires
+whole_size-requires c = record {
+  sizes = record {
+    live = live_before c.args.scene.now.asking.now.ended c.args.scene.now.serial c.args.parts.now.sessions.live c.requires.live;
+    sized = c.requires.ready.sized;
+    within = all_weaker IsWithinLimit (λ (s : Session). is_overfull s ≡ false) (λ s w. w.full) c.args.parts.now.sessions.live
+        c.requires.ready.queues;
+  };
+}
 
 pub returns-clause-can : goal.returns-clause-can
 returns-clause-can c =

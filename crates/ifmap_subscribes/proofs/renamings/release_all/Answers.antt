@@ -32,23 +32,5 @@ returns-clause-steady c =
     c.loop-renaming.invariant (nil_from_length (into_iter_items c.loop-renaming.renaming-iterator)
     (omega (arith, c.loop-renaming.renaming-iterator.rest.ok.0, c.in-None.ensures.steps.0)))
 
-pub returns-clause-rows : goal.returns-clause-rows
-returns-clause-rows c = c.loop-renaming.invariant.released.rows
-
-pub returns-clause-links : goal.returns-clause-links
-returns-clause-links c = c.loop-renaming.invariant.released.links
-
-pub returns-clause-numbers : goal.returns-clause-numbers
-returns-clause-numbers c = c.loop-renaming.invariant.released.numbers
-
-pub returns-clause-backs : goal.returns-clause-backs
-returns-clause-backs c = c.loop-renaming.invariant.released.backs
-
-pub returns-clause-waits : goal.returns-clause-waits
-returns-clause-waits c = c.loop-renaming.invariant.released.waits
-
-pub returns-clause-lean : goal.returns-clause-lean
-returns-clause-lean c = c.loop-renaming.invariant.released.lean
-
-pub returns-clause-kept : goal.returns-clause-kept
-returns-clause-kept c = c.loop-renaming.invariant.released.kept
+pub returns-clause-lets_go : goal.returns-clause-lets_go
+returns-clause-lets_go c = c.loop-renaming.invariant.released

@@ -1,4 +1,4 @@
-use Rattle.std.proofs.Common.{List, inl, arith}
+use Rattle.std.proofs.Common.{List, inl, arith, subst}
 use Rattle.ifmap_changes.specs.Between.{IsSteady}
 use Rattle.ifmap_changes.specs.ifmap_graph.Seen.{rows_now}
 use Rattle.ifmap_lemmas.specs.Results.{on_err}
@@ -9,7 +9,7 @@ use Rattle.ifmap_subscribes.proofs.starting.begin_name.Given as given
 use Rattle.ifmap_subscribes.proofs.starting.begin_name.Goals as goal
 use Rattle.ifmap_subscribes.proofs.starting.begin_name.Goals.{After-begin_at}
 use Rattle.ifmap_subscribes.specs.Bounds.{IsWithinSpan}
-use Rattle.ifmap_subscribes.specs.Readying.{GraphHolds, IsHolding}
+use Rattle.ifmap_subscribes.specs.Readying.{BeginsName, GraphHolds, IsHolding}
 
 -- the graph that holds the number of the start is steady but for it
 steady : (g : given.Over) (c : After-begin_at g) (standing : List Standing) → IsSteady c.args.graph.now standing
@@ -45,6 +45,12 @@ release_unused-requires g c =
 pub release_held-requires : goal.release_held-requires
 release_held-requires g c =
     (c.requires.steady.0, steady g (goal.at.release_held-requires g c).After-begin_at c.requires.steady.0 c.requires.steady.1)
+
+pub returns-in-Ok-clause-begins : goal.returns-in-Ok-clause-begins
+returns-in-Ok-clause-begins g c =
+    let wanted = c.args.wanted.now in
+    subst (λ rows. BeginsName rows wanted.serial wanted.name.now wanted.search.now c.in-Ok.renaming)
+    (alone g (goal.at.returns-in-Ok-clause-begins g c).After-begin_at).rows c.in-Ok.ensures.begins
 
 pub returns-in-Ok-clause-steady : goal.returns-in-Ok-clause-steady
 returns-in-Ok-clause-steady g c = λ standing was.
