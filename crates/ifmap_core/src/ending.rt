@@ -172,7 +172,7 @@ fn end_and_answer<L: Ledger>(
         client: &event.client,
         moment: time.moment,
         ttl: time.ttl,
-        ended: &serials.0,
+        ended: serials.as_slice(),
     };
     let mut pending = pending_without(alloc, parts, &asking)?;
     let made = take_away_kept(alloc, parts, &mut pending, &asking, &who, steps)?;

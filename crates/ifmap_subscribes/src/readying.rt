@@ -142,7 +142,7 @@ fn ready_all<L: Ledger>(
         parts.new readying.old readying.new }
     ensures steps { AreOpsWithin (rows_now parts.old.graph) ops.now steps.old steps.new }
 {
-    for op in &ops.0 {
+    for op in ops.as_slice() {
         ready_op(alloc, parts, scene, op, readying, steps)?;
     }
     Ok(())

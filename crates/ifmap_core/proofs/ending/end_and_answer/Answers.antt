@@ -25,20 +25,20 @@ spent : (g : given.Over) (c : After-take_away_kept g) (after : ℕ)
     c.take_away_kept.new.steps after
     → IsEventWithin (state_when c.args.time.now c.args.parts.now) c.args.event.now c.args.steps.now after
 spent g c after asked =
-    let listed = c.deref.ensures.value ∙ c.serials.view_is in
-    event_expired (state_when c.args.time.now c.args.parts.now) c.args.event.now c.deref.result.now c.in_ok-copy.field-0 c.requires.some
+    let listed = c.as_slice.ensures in
+    event_expired (state_when c.args.time.now c.args.parts.now) c.args.event.now c.as_slice.result.now c.in_ok-copy.field-0 c.requires.some
     (listed ∙ c.in_ok-serials.ensures) (c.in_ok-copy.ensures ∙ sym listed) _ c.in_ok-pending.ensures.state_now c.args.steps.now
     c.take_away_kept.new.steps after c.take_away_kept.ensures.steps asked
 
 pub pending_without-requires-clause-ended : goal.pending_without-requires-clause-ended
 pending_without-requires-clause-ended g c =
     subst (λ (ns : List ℕ). CanEnd ns c.args.parts.now.sessions.live)
-    (sym (c.deref.ensures.value ∙ c.serials.view_is ∙ c.in_ok-serials.ensures))
+    (sym (c.as_slice.ensures ∙ c.in_ok-serials.ensures))
     (expired_end c.args.time.now.moment c.args.time.now.ttl c.args.parts.now.sessions.live c.is_table.ensures.rising)
 
 pub pending_without-requires-clause-rising : goal.pending_without-requires-clause-rising
 pending_without-requires-clause-rising g c =
-    subst (IsStrictlySortedBy nat_cmp) (sym (c.deref.ensures.value ∙ c.serials.view_is ∙ c.in_ok-serials.ensures))
+    subst (IsStrictlySortedBy nat_cmp) (sym (c.as_slice.ensures ∙ c.in_ok-serials.ensures))
     (expired_rise c.args.time.now.moment c.args.time.now.ttl c.args.parts.now.sessions.live c.is_table.ensures.rising)
 
 pub answer_ended-requires-clause-can : goal.answer_ended-requires-clause-can
@@ -69,11 +69,11 @@ returns-in_err-made-clause-answers g c =
 pub returns-clause-answers : goal.returns-clause-answers
 returns-clause-answers g c =
     let old = c.args.parts.now in
-    let listed = c.deref.ensures.value ∙ c.serials.view_is in
+    let listed = c.as_slice.ensures in
     record {
       answer = subst (λ (s : State). IfOk c.answer_ended.result (λ answer. ◌≡◌ {A = State × Answer}
           (state_when c.args.time.now c.answer_ended.new.parts, answer) (step_ask s c.args.event.now c.args.event.now.ask)))
-          (expires_by (state_when c.args.time.now old) c.deref.result.now c.in_ok-copy.field-0 c.requires.some
+          (expires_by (state_when c.args.time.now old) c.as_slice.result.now c.in_ok-copy.field-0 c.requires.some
           (listed ∙ c.in_ok-serials.ensures) (c.in_ok-copy.ensures ∙ sym listed) _ _ c.in_ok-pending.ensures.state_now
           c.in_ok-made.ensures.takes.told) c.answer_ended.ensures.answer;
       kept = on_err_weaker {Q = AreBack old c.answer_ended.new.parts} c.answer_ended.result
@@ -102,8 +102,8 @@ returns-in_err-made-clause-steps g c =
 pub returns-clause-steps : goal.returns-clause-steps
 returns-clause-steps g c =
     let before = state_when c.args.time.now c.args.parts.now in
-    let listed = c.deref.ensures.value ∙ c.serials.view_is in
+    let listed = c.as_slice.ensures in
     spent g (goal.at.returns-clause-steps g c).After-take_away_kept c.answer_ended.new.steps
     (subst (λ (s : State). IsAskWithin s c.args.event.now c.args.event.now.ask c.take_away_kept.new.steps c.answer_ended.new.steps)
-    (expires_by before c.deref.result.now c.in_ok-copy.field-0 c.requires.some (listed ∙ c.in_ok-serials.ensures)
+    (expires_by before c.as_slice.result.now c.in_ok-copy.field-0 c.requires.some (listed ∙ c.in_ok-serials.ensures)
     (c.in_ok-copy.ensures ∙ sym listed) _ _ c.in_ok-pending.ensures.state_now c.in_ok-made.ensures.takes.told) c.answer_ended.ensures.steps)

@@ -1,4 +1,4 @@
-use Rattle.std.proofs.Common.{◌≡◌, ◌∙◌, ◌<◌, subst, drop, length, get_or}
+use Rattle.std.proofs.Common.{◌≡◌, ◌<◌, subst, drop, length, get_or}
 use Rattle.ifmap_changes.specs.ifmap_graph.Seen.{rows_now}
 use Rattle.ifmap_changes.specs.ifmap_machine.Subscribing.{subscribe_ops}
 use Rattle.ifmap_subscribes.proofs.OfScene.{makes_no_more, rest_full, rest_made}
@@ -13,12 +13,11 @@ use Rattle.ifmap_subscribes.proofs.readying.ready_all.Goals.{After-ready_op}
 -- the operation of this turn is the one with this index
 low : (g : given.Over) (c : After-ready_op g) → c.loop-op.op-index < length c.args.ops.now
 low g c =
-    subst (λ xs. c.loop-op.op-index < length xs) (c.deref-op-items.ensures.value ∙ c.ops.view_is) c.loop-op-test.true
+    subst (λ xs. c.loop-op.op-index < length xs) c.as_slice-op-items.ensures c.loop-op-test.true
 
 here : (g : given.Over) (c : After-ready_op g) → c.op-item.result ≡ get_or c.args.ops.now c.loop-op.op-index c.op-item.result
 here g c =
-    subst (λ xs. c.op-item.result ≡ get_or xs c.loop-op.op-index c.op-item.result) (c.deref-op-items.ensures.value ∙ c.ops.view_is)
-    c.op-item.is
+    subst (λ xs. c.op-item.result ≡ get_or xs c.loop-op.op-index c.op-item.result) c.as_slice-op-items.ensures c.op-item.is
 
 pub returns-in_err-ready_op-clause-makes : goal.returns-in_err-ready_op-clause-makes
 returns-in_err-ready_op-clause-makes g c =
