@@ -76,7 +76,7 @@ pub fn change<'a, G: View, D: View, L: Ledger>(
         marks: &patched,
     };
     let plan = located.plan;
-    let changes = &plan.changes.0;
+    let changes = plan.changes.as_slice();
     let items = touched_items(alloc, &before, &after, changes, &located.changes, steps)?;
     let told = differences_on(alloc, &before, &after, items, changes)?;
     let Some(new_size) = size_after(subscription.size, &told) else {
@@ -157,7 +157,7 @@ fn patch_for<'a, G: View, D: View, L: Ledger>(
         alloc,
         search,
         &subscription.region,
-        &plan.changes.0,
+        plan.changes.as_slice(),
         &located.changes,
     )?;
     let links = LinksOf {

@@ -111,8 +111,8 @@ fn rows_touched(alloc: Global, rows: &[Row], change: &ItemChange) -> Result<Vec<
         ≡ rows_touched_by (change.now.removed ++ change.now.added) rows.now) }
 {
     let mut found = Vec::new(alloc);
-    put_touched(rows, &change.removed.0, &mut found)?;
-    put_touched(rows, &change.added.0, &mut found)?;
+    put_touched(rows, change.removed.as_slice(), &mut found)?;
+    put_touched(rows, change.added.as_slice(), &mut found)?;
     Ok(found)
 }
 

@@ -53,8 +53,8 @@ pub fn locate_plan<'a, G: View, D: View>(
     ensures located { IfOk result (IsLocatedPlan
         (view_seen G.rows G.id_at G.links graph.now) (view_seen D.rows D.id_at D.links draft.now)) }
 {
-    let changes = locate_changes(alloc, graph, draft, &plan.changes.0)?;
-    let notes = locate_notes(alloc, draft, &plan.notes.0)?;
+    let changes = locate_changes(alloc, graph, draft, plan.changes.as_slice())?;
+    let notes = locate_notes(alloc, draft, plan.notes.as_slice())?;
     Ok(LocatedPlan {
         plan,
         changes,

@@ -45,7 +45,7 @@ pub fn notes<'a, D: View>(
         marks: &subscription.region,
     };
     let plan = located.plan;
-    let told = told_entries(alloc, &after, &plan.notes.0, &located.notes)?;
+    let told = told_entries(alloc, &after, plan.notes.as_slice(), &located.notes)?;
     Ok(Many(told))
 }
 

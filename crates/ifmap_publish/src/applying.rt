@@ -53,7 +53,7 @@ pub(crate) fn apply_op<V: Keyed>(
             forever,
         } => {
             let life = life_of(author.serial, *forever);
-            let rows = rows_of_elements(alloc, author, life, &elements.0)?;
+            let rows = rows_of_elements(alloc, author, life, elements.as_slice())?;
             attach_each(alloc, view, item, &rows, edit)?;
             Ok(())
         }

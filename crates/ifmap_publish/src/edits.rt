@@ -175,7 +175,7 @@ pub(crate) fn delete<V: View>(
     ensures { OnOk result (EditMakes (stored_on item.now (V.rows view.now)) edit.new
         (delete_on (list_by edit.old (stored_on item.now (V.rows view.now))) filter.now)) }
 {
-    let met = share_others_met(alloc, view.stored_at(item), filter, &edit.taken.0)?;
+    let met = share_others_met(alloc, view.stored_at(item), filter, edit.taken.as_slice())?;
     put_rows(&mut edit.taken.0, &met)?;
     let left = share_met(alloc, edit.put.as_slice(), filter)?;
     edit.put.carry_out(&left, &[])?;

@@ -36,7 +36,7 @@ fn add_notes_of(
 {
     match op {
         PublishOp::Notify { item, elements } => {
-            add_notes(alloc, author, item, &elements.0, notes)
+            add_notes(alloc, author, item, elements.as_slice(), notes)
         }
         PublishOp::Update { .. } => Ok(()),
         PublishOp::Delete { .. } => Ok(()),

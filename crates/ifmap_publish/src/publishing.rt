@@ -46,9 +46,9 @@ pub fn plan<V: Keyed>(
     ensures changes { IfOk result (λ plan. AllByRecursion IsChange plan.changes) }
     ensures notes { IfOk result (λ plan. plan.notes ≡ notes_of author.now ops.now) }
 {
-    let edits = apply_all(alloc, view, author, &ops.0)?;
+    let edits = apply_all(alloc, view, author, ops.as_slice())?;
     let changes = changes_by(alloc, edits)?;
-    let notes = notes_of(alloc, author, &ops.0)?;
+    let notes = notes_of(alloc, author, ops.as_slice())?;
     Ok(Plan {
         changes: Many(changes),
         notes: Many(notes),
@@ -79,8 +79,8 @@ fn add_change(
     ensures { OnOk result (changes.new.items ≡ changes.old.items ++ changes_by (entry ∷ [])) }
 {
     let (item, edit) = entry;
-    let removed = difference(alloc, &edit.taken.0, edit.put.as_slice())?;
-    let added = difference(alloc, edit.put.as_slice(), &edit.taken.0)?;
+    let removed = difference(alloc, edit.taken.as_slice(), edit.put.as_slice())?;
+    let added = difference(alloc, edit.put.as_slice(), edit.taken.as_slice())?;
     if !moves_something(&removed, &added) {
         return Ok(());
     }

@@ -93,7 +93,7 @@ fn is_of(who: &Who, stored: &Stored) -> bool
     ensures { result ≡ is_of who.now stored.now }
 {
     match who {
-        Who::Sessions(serials) => ends_with(&serials.0, stored.life),
+        Who::Sessions(serials) => ends_with(serials.as_slice(), stored.life),
         Who::Publisher(name) => stored.publisher == *name,
     }
 }

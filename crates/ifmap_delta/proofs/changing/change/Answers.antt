@@ -53,16 +53,16 @@ pub touched_items-requires-clause-change : goal.touched_items-requires-clause-ch
 touched_items-requires-clause-change g c =
     let old = view_seen g.G.View.rows g.G.View.id_at g.G.View.links c.args.graph.now
     in let new = view_seen g.D.View.rows g.D.View.id_at g.D.View.links c.args.draft.now
-    in let at : c.deref-2.result.now ≡ c.args.located.now.plan.now.changes = search rules
+    in let at : c.as_slice-changes.result.now ≡ c.args.located.now.plan.now.changes = search rules
     in subst (ShowsAfter old new) (sym at) c.requires.planned.change
 
 pub touched_items-requires-clause-located : goal.touched_items-requires-clause-located
 touched_items-requires-clause-located g c =
     let old = view_seen g.G.View.rows g.G.View.id_at g.G.View.links c.args.graph.now
     in let new = view_seen g.D.View.rows g.D.View.id_at g.D.View.links c.args.draft.now
-    in let at : c.deref-2.result.now ≡ c.args.located.now.plan.now.changes = search rules
-    in let on : c.deref-3.result.now ≡ c.args.located.now.changes.items = search rules
-    in subst (λ cs. AreLocated old new cs c.deref-3.result.now) (sym at)
+    in let at : c.as_slice-changes.result.now ≡ c.args.located.now.plan.now.changes = search rules
+    in let on : c.deref-2.result.now ≡ c.args.located.now.changes.items = search rules
+    in subst (λ cs. AreLocated old new cs c.deref-2.result.now) (sym at)
     (subst (λ ls. AreLocated old new c.args.located.now.plan.now.changes ls) (sym on) c.requires.planned.located)
 
 pub differences_on-requires-clause-sides : goal.differences_on-requires-clause-sides
@@ -82,7 +82,7 @@ pub differences_on-requires-clause-change : goal.differences_on-requires-clause-
 differences_on-requires-clause-change g c =
     let old = view_seen g.G.View.rows g.G.View.id_at g.G.View.links c.args.graph.now
     in let new = view_seen g.D.View.rows g.D.View.id_at g.D.View.links c.args.draft.now
-    in let at : c.deref-4.result.now ≡ c.args.located.now.plan.now.changes = search rules
+    in let at : c.as_slice-changes.result.now ≡ c.args.located.now.plan.now.changes = search rules
     in subst (λ cs. IsAfter cs old.rows new.rows) (sym at) c.requires.planned.change.after
 
 pub returns-in_err-items-clause-steps : goal.returns-in_err-items-clause-steps

@@ -12,9 +12,9 @@ put_touched-requires-clause-found c = subst (IsStrictlySortedBy stored_order) (s
 pub returns : goal.returns
 returns c =
     let rows = c.args.rows.now
-    in let removed : c.deref.result.now ≡ c.args.change.now.removed = search rules
-    in let added : c.deref-2.result.now ≡ c.args.change.now.added = search rules
-    in c.in_ok-put_touched-2.ensures.found c.deref.result.now
+    in let removed : c.as_slice.result.now ≡ c.args.change.now.removed = search rules
+    in let added : c.as_slice-2.result.now ≡ c.args.change.now.added = search rules
+    in c.in_ok-put_touched-2.ensures.found c.as_slice.result.now
     (c.in_ok-put_touched.ensures.found [] (c.new-found.ensures.items ∙ sym (none_touched rows)))
-    ∙ ap (λ l. rows_touched_by (l ++ c.deref-2.result.now) rows) removed
+    ∙ ap (λ l. rows_touched_by (l ++ c.as_slice-2.result.now) rows) removed
     ∙ ap (λ l. rows_touched_by (c.args.change.now.removed ++ l) rows) added

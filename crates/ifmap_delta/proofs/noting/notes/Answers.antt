@@ -12,22 +12,22 @@ told_entries-requires-clause-marks g c =
 
 pub told_entries-requires-clause-canon : goal.told_entries-requires-clause-canon
 told_entries-requires-clause-canon g c =
-    let at : c.deref.result.now ≡ c.args.located.now.plan.now.notes = search rules
+    let at : c.as_slice.result.now ≡ c.args.located.now.plan.now.notes = search rules
     in subst (AllByRecursion (λ n. IsCanonItem n.item)) (sym at) c.requires.canon
 
 pub told_entries-requires-clause-located : goal.told_entries-requires-clause-located
 told_entries-requires-clause-located g c =
     let new = view_seen g.D.View.rows g.D.View.id_at g.D.View.links c.args.draft.now
-    in let at : c.deref.result.now ≡ c.args.located.now.plan.now.notes = search rules
-    in let on : c.deref-2.result.now ≡ c.args.located.now.notes.items = search rules
-    in subst (λ ns. AreNotesLocated new ns c.deref-2.result.now) (sym at)
+    in let at : c.as_slice.result.now ≡ c.args.located.now.plan.now.notes = search rules
+    in let on : c.deref.result.now ≡ c.args.located.now.notes.items = search rules
+    in subst (λ ns. AreNotesLocated new ns c.deref.result.now) (sym at)
     (subst (λ ls. AreNotesLocated new c.args.located.now.plan.now.notes ls) (sym on) c.requires.located)
 
 pub told_entries-requires-clause-long : goal.told_entries-requires-clause-long
 told_entries-requires-clause-long g c =
     let new = view_seen g.D.View.rows g.D.View.id_at g.D.View.links c.args.draft.now
-    in let at : c.deref.result.now ≡ c.args.located.now.plan.now.notes = search rules
-    in let on : c.deref-2.result.now ≡ c.args.located.now.notes.items = search rules
+    in let at : c.as_slice.result.now ≡ c.args.located.now.plan.now.notes = search rules
+    in let on : c.deref.result.now ≡ c.args.located.now.notes.items = search rules
     in ap length on
     ∙ each_long (λ n l. IsLocated new n.item l) c.args.located.now.plan.now.notes c.args.located.now.notes.items c.requires.located
     ∙ ap length (sym at)

@@ -11,8 +11,8 @@ returns-in_ok-attach_each-in-Update g c =
     in let life : c.life_of-life.result ≡ life_of by.serial forever = c.life_of-life.ensures
     ∙ ap (λ (a : Authorship). life_of a.serial forever) c.author.view_is
     in update_made (g.V.View.rows c.args.view.now) by c.args.op.now c.in-Update.item c.in-Update.elements forever c.args.edit.now
-    c.attach_each.new.edit c.deref-in-Update.result.now c.in-Update.is
-    (c.deref-in-Update.ensures.value ∙ c.in_ok-rows-in-Update.ensures.rows
-    ∙ ap (λ (l : Life). map (stored_for by l) c.deref.result.now) life
-    ∙ ap (map (stored_of by forever)) (c.deref.ensures.value ∙ c.elements.view_is))
+    c.attach_each.new.edit c.deref.result.now c.in-Update.is
+    (c.deref.ensures.value ∙ c.in_ok-rows-in-Update.ensures.rows
+    ∙ ap (λ (l : Life). map (stored_for by l) c.as_slice.result.now) life
+    ∙ ap (map (stored_of by forever)) c.as_slice.ensures)
     c.in_ok-attach_each-in-Update.ensures

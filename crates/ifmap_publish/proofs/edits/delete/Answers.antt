@@ -43,7 +43,7 @@ returns g c =
     let sound = put_sound stored list c.args.edit.now c.requires.edit in
     let up = (sound_on c.args.item.now rows c.requires.graph c.requires.whole).keyed.rising in
     let met : c.in_ok-met.met.items ≡ filter (λ s. not (is_among c.args.edit.now.taken s) && k s) stored = search rules in
-    let left : c.deref-3.result.now ≡ filter k c.args.edit.now.put = search rules in
+    let left : c.deref-2.result.now ≡ filter k c.args.edit.now.put = search rules in
     let taken : c.put_rows.new.rows.items ≡ put_each c.in_ok-met.met.items c.args.edit.now.taken = search rules in
     let put : c.edit.inside.0.1.0 ≡ c.args.edit.now.put = ap (λ (e : Edit). e.put) c.edit.view_is in
     makes_less stored list c.args.edit.now _ up c.requires.edit k

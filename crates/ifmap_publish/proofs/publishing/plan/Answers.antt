@@ -14,7 +14,7 @@ returns-clause-fits g c =
 
 pub returns-clause-applies : goal.returns-clause-applies
 returns-clause-applies g c =
-    let all : c.deref.result.now ≡ c.args.ops.now = c.deref.ensures.value ∙ c.ops.view_is in
+    let all : c.as_slice.result.now ≡ c.args.ops.now = c.as_slice.ensures in
     let rows = g.V.View.rows c.args.view.now in
     edits_lead rows c.requires.graph c.requires.whole c.in_ok-edits.edits.entries c.in_ok-edits.ensures.edits
     c.changes_by.ensures.ordered _ c.in_ok-changes.ensures.changes
@@ -22,7 +22,7 @@ returns-clause-applies g c =
 
 pub returns-clause-exact : goal.returns-clause-exact
 returns-clause-exact g c =
-    let all : c.deref.result.now ≡ c.args.ops.now = c.deref.ensures.value ∙ c.ops.view_is in
+    let all : c.as_slice.result.now ≡ c.args.ops.now = c.as_slice.ensures in
     let rows = g.V.View.rows c.args.view.now in
     edits_are_exact rows c.requires.graph c.requires.whole c.in_ok-edits.edits.entries c.in_ok-edits.ensures.edits
     c.changes_by.ensures.ordered _ c.in_ok-changes.ensures.changes
