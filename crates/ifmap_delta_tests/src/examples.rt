@@ -37,7 +37,7 @@ fn push_entry(alloc: Global, out: &mut String, entry: &Entry) -> Result<(), NoMe
     let element = entry.element.element();
     out.push_str(place.as_str())?;
     out.push_str(" ")?;
-    out.push_str(element.name.local.0.as_str())?;
+    out.push_str(element.name.local.as_str())?;
     out.push_str(text_of(element))?;
     out.push_str(", ")
 }
@@ -63,8 +63,18 @@ fn check_entries(
 
 // What goes and what comes.
 fn check_moved(alloc: Global, moved: &Moved, example: &Example) -> Result<(), Fault> {
-    check_entries(alloc, &moved.deleted.0, example.deleted, Fault::Deleted)?;
-    check_entries(alloc, &moved.updated.0, example.updated, Fault::Updated)
+    check_entries(
+        alloc,
+        moved.deleted.as_slice(),
+        example.deleted,
+        Fault::Deleted,
+    )?;
+    check_entries(
+        alloc,
+        moved.updated.as_slice(),
+        example.updated,
+        Fault::Updated,
+    )
 }
 
 // What is notified.
@@ -80,7 +90,7 @@ fn check_notes(
     requires canon { AllByRecursion (λ n. IsCanonItem n.item) plan.now.notes }
 {
     let notified = notes_of(alloc, graph, subscription, plan)?;
-    check_entries(alloc, &notified.0, wanted, Fault::Notes)
+    check_entries(alloc, notified.as_slice(), wanted, Fault::Notes)
 }
 
 // What the second publish tells the subscription, which takes it over.
@@ -120,7 +130,7 @@ fn world_of(alloc: Global, example: &Example) -> Result<World, Fault>
 {
     let search = search_of(alloc, &example.sought)?;
     let (world, found) = begin_world(alloc, search, example.first)?;
-    check_entries(alloc, &found.entries.0, example.found, Fault::Found)?;
+    check_entries(alloc, found.entries.as_slice(), example.found, Fault::Found)?;
     Ok(world)
 }
 

@@ -218,7 +218,7 @@ fn make_first(
 }
 
 fn tells_something(moved: &Moved) -> bool {
-    !moved.deleted.0.is_empty() || !moved.updated.0.is_empty()
+    !moved.deleted.is_empty() || !moved.updated.is_empty()
 }
 
 // Two changes of a graph with a subscription.

@@ -146,8 +146,16 @@ fn change_with<L: Ledger>(
 }
 
 fn check_lists(moved: &Moved, before: &Found, after: &Found) -> Result<(), Fault> {
-    let goes = tells_difference(&moved.deleted.0, &before.entries.0, &after.entries.0);
-    let comes = tells_difference(&moved.updated.0, &after.entries.0, &before.entries.0);
+    let goes = tells_difference(
+        moved.deleted.as_slice(),
+        before.entries.as_slice(),
+        after.entries.as_slice(),
+    );
+    let comes = tells_difference(
+        moved.updated.as_slice(),
+        after.entries.as_slice(),
+        before.entries.as_slice(),
+    );
     fault_unless(goes, Fault::Deleted)?;
     fault_unless(comes, Fault::Updated)?;
     fault_unless(moved.new_size == after.size, Fault::Size)

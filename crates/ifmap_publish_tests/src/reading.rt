@@ -4,7 +4,7 @@ use ifmap_elem::{Attribute, Child, Element};
 /// Its text, where it begins with one, or nothing.
 pub fn text_of(element: &Element) -> &str {
     match element.children.as_slice().first() {
-        Some(Child::Text(text)) => text.0.as_str(),
+        Some(Child::Text(text)) => text.as_str(),
         _ => "",
     }
 }
@@ -13,7 +13,7 @@ pub fn text_of(element: &Element) -> &str {
 pub fn value_of<'a>(attributes: &'a [Attribute], name: &str) -> &'a str {
     for attribute in attributes {
         if attribute.name.is_bare(name) {
-            return attribute.value.0.as_str();
+            return attribute.value.as_str();
         }
     }
     ""

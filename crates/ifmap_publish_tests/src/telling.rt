@@ -11,7 +11,7 @@ use std::alloc::{AllocError as NoMemory, Global};
 fn element_text(alloc: Global, element: &Element) -> Result<String, NoMemory> {
     format!(in alloc;
         "{}({}) {}",
-        element.name.local.0.as_str(),
+        element.name.local.as_str(),
         text_of(element),
         value_of(element.attributes.as_slice(), "ifmap-timestamp")
     )
@@ -29,7 +29,7 @@ fn row_text(alloc: Global, row: &Row) -> Result<String, NoMemory> {
     let stored = row.stored_element();
     let element = element_text(alloc, stored.element.element())?;
     let life = life_text(alloc, stored.life)?;
-    let publisher = stored.publisher.text().0.as_str();
+    let publisher = stored.publisher.text().as_str();
     format!(in alloc; "{element} {publisher} {life}")
 }
 
@@ -51,8 +51,8 @@ fn push_change(alloc: Global, out: &mut String, change: &ItemChange) -> Result<(
     out.push_str("[")?;
     out.push_str(place.as_str())?;
     out.push_str("]")?;
-    push_rows(alloc, out, " -", &change.removed.0)?;
-    push_rows(alloc, out, " +", &change.added.0)?;
+    push_rows(alloc, out, " -", change.removed.as_slice())?;
+    push_rows(alloc, out, " +", change.added.as_slice())?;
     out.push_str("\n")
 }
 
@@ -67,7 +67,7 @@ fn push_note(alloc: Global, out: &mut String, note: &Note) -> Result<(), NoMemor
 }
 
 fn push_notes(alloc: Global, out: &mut String, notes: &Many<Note>) -> Result<(), NoMemory> {
-    for note in &notes.0 {
+    for note in notes.as_slice() {
         push_note(alloc, out, note)?;
     }
     Ok(())
@@ -76,7 +76,7 @@ fn push_notes(alloc: Global, out: &mut String, notes: &Many<Note>) -> Result<(),
 // A line for each item that changes, and then one for each note.
 fn text_of_plan(alloc: Global, plan: &Plan) -> Result<String, NoMemory> {
     let mut out = String::new(alloc);
-    for change in &plan.changes.0 {
+    for change in plan.changes.as_slice() {
         push_change(alloc, &mut out, change)?;
     }
     push_notes(alloc, &mut out, &plan.notes)?;
