@@ -60,7 +60,7 @@ on_shelf : (P : Attachment → Attachment → Type 0) → ((s : Shelf) (x y : St
 on_shelf P f ss a =
     all_weaker (λ s. all_pairs row_below s.rows.items ≡ true) (λ s. Pairwise P (map (attachment_on s.item) s.rows.items))
     (λ s e. pairwise_onto (λ x y. row_below x y ≡ true) P (attachment_on s.item) s.rows.items (f s)
-        (pairs_of row_below s.rows.items e)) ss a
+    (pairs_of row_below s.rows.items e)) ss a
 
 pub graph_is : (ss : List Shelf) → AllByRecursion (λ s. IsCanonItem s.item) ss → all_pairs item_below ss ≡ true → are_lists ss ≡ true
     → IsGraph (rows_on_shelves ss)

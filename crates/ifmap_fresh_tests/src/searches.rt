@@ -40,14 +40,14 @@ fn push_entry(alloc: Global, out: &mut String, entry: &Entry) -> Result<(), NoMe
     let place = place_of(alloc, entry.item.item())?;
     out.push_str(place.as_str())?;
     out.push_str(" ")?;
-    out.push_str(entry.element.element().name.local.0.as_str())?;
+    out.push_str(entry.element.element().name.local.as_str())?;
     out.push_str(", ")
 }
 
 // The entries in their order: their places, and the local names of their elements.
 fn text_of_entries(alloc: Global, entries: &Many<Entry>) -> Result<String, NoMemory> {
     let mut out = String::new(alloc);
-    for entry in &entries.0 {
+    for entry in entries.iter() {
         push_entry(alloc, &mut out, entry)?;
     }
     Ok(out)

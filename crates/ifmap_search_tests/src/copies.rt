@@ -8,7 +8,7 @@ use std::alloc::{AllocError as NoMemory, Global};
 use std::test::Fail;
 
 fn same_entries(one: &Many<Entry>, other: &Many<Entry>) -> bool {
-    let (one, other) = (&one.0, &other.0);
+    let (one, other) = (one.as_slice(), other.as_slice());
     one.len() == other.len() && (0..one.len()).all(|i| same_entry(&one[i], &other[i]))
 }
 

@@ -121,7 +121,7 @@ fn take_errors(sessions: &mut Sessions, serial: u64, told: &[GivenError]) -> boo
     requires { IsLive serial sessions.old.live }
 {
     let items = sessions.take_all(serial);
-    are_errors(&items.0, told)
+    are_errors(items.as_slice(), told)
 }
 
 // Whether these errors are taken, and nothing else.
