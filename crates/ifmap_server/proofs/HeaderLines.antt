@@ -20,6 +20,7 @@ use Rattle.ifmap_meta.specs.ClientNames.{IsClientName, is_client_byte}
 use Rattle.ifmap_server.specs.declared.headers.Header.{Header}
 use Rattle.ifmap_server.specs.Characters.{at_sign}
 use Rattle.ifmap_server.specs.Frames.{IsHeader, header_text, longest_body, word_text}
+use Rattle.ifmap_server.specs.Lines.{words_line}
 use Rattle.ifmap_lemmas.specs.Splits.{Without, without_from, without_at, without_append, before, after, before_at, after_at}
 use Rattle.ifmap_lemmas.specs.Decimals.{decimal_model}
 
@@ -87,16 +88,12 @@ all_without c (x ∷ xs) out all =
 
 -- ---- lines
 
--- four words after a sign, with single spaces between them
-abbrev pub join_line : (m c r s : List ℕ) → List ℕ
-join_line m c r s = at_sign ∷ m ++ space_character ∷ c ++ space_character ∷ r ++ space_character ∷ s
-
 pub joined_right : (m c r s : List ℕ)
-    → join_line m c r s ≡ at_sign ∷ (m ++ space_character ∷ (c ++ space_character ∷ (r ++ space_character ∷ s)))
+    → words_line m c r s ≡ at_sign ∷ (m ++ space_character ∷ (c ++ space_character ∷ (r ++ space_character ∷ s)))
 joined_right m c r s = simp append_assoc
 
 joined_without : (m c r s : List ℕ) → Without line_feed m → Without line_feed c → Without line_feed r → Without line_feed s
-    → Without line_feed (join_line m c r s)
+    → Without line_feed (words_line m c r s)
 joined_without m c r s wm wc wr ws =
     without_append line_feed (at_sign ∷ m ++ space_character ∷ c ++ space_character ∷ r) (space_character ∷ s)
     (without_append line_feed (at_sign ∷ m ++ space_character ∷ c) (space_character ∷ r)
@@ -104,7 +101,7 @@ joined_without m c r s wm wc wr ws =
     ((λ e. absurd (omega arith)), wr))
     ((λ e. absurd (omega arith)), ws)
 
-joined_length : (m c r s : List ℕ) → length (join_line m c r s) ≡ length m + length c + length r + length s + 4
+joined_length : (m c r s : List ℕ) → length (words_line m c r s) ≡ length m + length c + length r + length s + 4
 joined_length m c r s =
     omega (
       arith,
@@ -115,7 +112,7 @@ joined_length m c r s =
 
 -- a header without its newline
 abbrev pub line_text : Header → List ℕ
-line_text h = join_line (decimal h.moment) h.client (word_text h.random) (decimal h.size)
+line_text h = words_line (decimal h.moment) h.client (word_text h.random) (decimal h.size)
 
 pub header_of_line : (h : Header) → header_text h.moment h.client h.random h.size ≡ line_text h ++ line_feed ∷ []
 header_of_line h = refl
@@ -146,7 +143,7 @@ read_line line =
     (after space_character (after space_character (after space_character (drop 1 line))))
 
 read_joined : (m c r s : List ℕ) → Without space_character m → Without space_character c → Without space_character r
-    → read_line (join_line m c r s) ≡ header_from m c r s
+    → read_line (words_line m c r s) ≡ header_from m c r s
 unfolding read_line
 read_joined m c r s wm wc wr =
     ap read_line (joined_right m c r s) ∙ rw (
