@@ -1,12 +1,10 @@
 //! What a client knows, and the lines that it carries out.
-ghost use Rattle.std.specs.Prelude.{◌≡◌, IsTrue, OnOk};
+ghost use Rattle.std.specs.Prelude.{◌≡◌, OnOk};
 ghost use Rattle.ifmap_client.specs.ifmap_folds.Folds.{fold_items};
-ghost use Rattle.ifmap_http.specs.ifmap_heads.Messages.{is_visible};
 ghost use Rattle.ifmap_client.specs.Keeping.{sets_of};
 ghost use Rattle.ifmap_client_script.specs.Deeds.{after_reply, nothing_known};
-ghost use Rattle.ifmap_client_script.specs.Ends.{ArePortsLater};
 ghost use Rattle.ifmap_client_script.specs.Holding.{known_of};
-ghost use Rattle.ifmap_client_script.specs.Outlets.{AreSame, AreUnspent, AsksOver, Prints};
+ghost use Rattle.ifmap_client_script.specs.Outlets.{AreOutletsLater, AsksOver, CanAsk, Prints};
 ghost use Rattle.ifmap_client_script.specs.Printing.{body_text, set_text};
 ghost use Rattle.ifmap_client_script.specs.Turns.{CarriesOut};
 
@@ -61,12 +59,10 @@ impl Client {
         line: Line,
         outlets: &mut O,
     ) -> Result<(), ScriptFailure>
-        requires unspent { AreUnspent (O.seen outlets.old) }
-        requires visible { IsTrue (is_visible caller.now.host) }
+        requires { CanAsk caller.now (O.seen outlets.old) }
         ensures carries { CarriesOut caller.now line (O.seen outlets.old) (O.seen outlets.new)
             (known_of self.old) (known_of self.new) result }
-        ensures later { ArePortsLater (O.seen outlets.old) (O.seen outlets.new) }
-        ensures same { AreSame (O.loans outlets.old) (O.loans outlets.new) }
+        ensures later { AreOutletsLater O.seen O.loans outlets.old outlets.new }
     {
         match line {
             Line::Blank => Ok(()),
@@ -83,12 +79,10 @@ impl Client {
         request: Request,
         outlets: &mut O,
     ) -> Result<(), ScriptFailure>
-        requires unspent { AreUnspent (O.seen outlets.old) }
-        requires visible { IsTrue (is_visible caller.now.host) }
+        requires { CanAsk caller.now (O.seen outlets.old) }
         ensures carries { CarriesOut caller.now (Line.Request request) (O.seen outlets.old)
             (O.seen outlets.new) (known_of self.old) (known_of self.new) result }
-        ensures later { ArePortsLater (O.seen outlets.old) (O.seen outlets.new) }
-        ensures same { AreSame (O.loans outlets.old) (O.loans outlets.new) }
+        ensures later { AreOutletsLater O.seen O.loans outlets.old outlets.new }
     {
         match self.ask(alloc, caller, request, outlets) {
             Ok(told) => self.tell(alloc, told, outlets),
@@ -107,8 +101,7 @@ impl Client {
             result }
         ensures known { OnOk result (known_of self.new
             ≡ after_reply told.reply (known_of self.old)) }
-        ensures later { ArePortsLater (O.seen outlets.old) (O.seen outlets.new) }
-        ensures same { AreSame (O.loans outlets.old) (O.loans outlets.new) }
+        ensures later { AreOutletsLater O.seen O.loans outlets.old outlets.new }
     {
         let ReadReply { body, reply } = told;
         if self.take(alloc, reply).is_err() {
@@ -126,8 +119,7 @@ impl Client {
     ) -> Result<(), ScriptFailure>
         ensures prints { Prints (set_text (sets_of self.now.kept name.now)) (O.seen outlets.old)
             (O.seen outlets.new) result }
-        ensures later { ArePortsLater (O.seen outlets.old) (O.seen outlets.new) }
-        ensures same { AreSame (O.loans outlets.old) (O.loans outlets.new) }
+        ensures later { AreOutletsLater O.seen O.loans outlets.old outlets.new }
     {
         let Ok(text) = set_text(alloc, self.sets.set_of(name)) else {
             return Err(ScriptFailure::NoMemory);
@@ -143,12 +135,10 @@ impl Client {
         request: Request,
         outlets: &mut O,
     ) -> Result<ReadReply, ScriptFailure>
-        requires unspent { AreUnspent (O.seen outlets.old) }
-        requires visible { IsTrue (is_visible caller.now.host) }
+        requires { CanAsk caller.now (O.seen outlets.old) }
         ensures asks { AsksOver caller.now request (known_of self.now) (O.seen outlets.old)
             (O.seen outlets.new) result }
-        ensures later { ArePortsLater (O.seen outlets.old) (O.seen outlets.new) }
-        ensures same { AreSame (O.loans outlets.old) (O.loans outlets.new) }
+        ensures later { AreOutletsLater O.seen O.loans outlets.old outlets.new }
     {
         match request_in(alloc, &self.session, request) {
             Ok(sent) => outlets.ask(alloc, caller, &sent),

@@ -1,9 +1,7 @@
 //! Where a script prints, and over which wires it asks.
-ghost use Rattle.std.specs.Prelude.{IsTrue};
-ghost use Rattle.ifmap_http.specs.ifmap_heads.Messages.{is_visible};
 ghost use Rattle.ifmap_http.specs.Wires.{wire_seen};
-ghost use Rattle.ifmap_client_script.specs.Ends.{ArePortsLater, Ports, ports};
-ghost use Rattle.ifmap_client_script.specs.Outlets.{AreSame, AreUnspent, IsAsked, Loans, Prints};
+ghost use Rattle.ifmap_client_script.specs.Ends.{Ports, ports};
+ghost use Rattle.ifmap_client_script.specs.Outlets.{AreOutletsLater, CanAsk, IsAsked, Loans, Prints};
 ghost use Rattle.ifmap_client_script.specs.Printing.{body_text};
 
 use crate::exchanges::{Caller, ReadReply, ask};
@@ -31,23 +29,19 @@ pub trait Outlets {
         caller: &Caller,
         sent: &Request,
     ) -> Result<ReadReply, ScriptFailure>
-        requires unspent { AreUnspent (seen self.old) }
-        requires visible { IsTrue (is_visible caller.now.host) }
+        requires { CanAsk caller.now (seen self.old) }
         ensures asks { IsAsked caller.now sent.now (seen self.old) (seen self.new) result }
-        ensures later { ArePortsLater (seen self.old) (seen self.new) }
-        ensures same { AreSame (loans self.old) (loans self.new) };
+        ensures later { AreOutletsLater seen loans self.old self.new };
 
     /// Writes a text, and hands it on.
     fn print(&mut self, text: &[u8]) -> Result<(), ScriptFailure>
         ensures prints { Prints text.now (seen self.old) (seen self.new) result }
-        ensures later { ArePortsLater (seen self.old) (seen self.new) }
-        ensures same { AreSame (loans self.old) (loans self.new) };
+        ensures later { AreOutletsLater seen loans self.old self.new };
 
     /// Writes `=`, the length of a body, a newline and the body, and hands them on.
     fn print_body(&mut self, alloc: Global, body: &Many<u8>) -> Result<(), ScriptFailure>
         ensures prints { Prints (body_text body.now) (seen self.old) (seen self.new) result }
-        ensures later { ArePortsLater (seen self.old) (seen self.new) }
-        ensures same { AreSame (loans self.old) (loans self.new) };
+        ensures later { AreOutletsLater seen loans self.old self.new };
 }
 
 /// A sink and two wires that are borrowed.

@@ -4,8 +4,8 @@ ghost use Rattle.ifmap_http.specs.ifmap_heads.Messages.{is_visible};
 ghost use Rattle.ifmap_http.specs.Wires.{wire_seen};
 ghost use Rattle.ifmap_io.specs.Causes.{Rose};
 ghost use Rattle.ifmap_input.specs.Scripts.{longest_script};
-ghost use Rattle.ifmap_client_script.specs.Ends.{ArePortsLater, IsLaterInRun, source_and_ports, ports};
-ghost use Rattle.ifmap_client_script.specs.Outlets.{AreSame, AreUnspent};
+ghost use Rattle.ifmap_client_script.specs.Ends.{IsLaterInRun, source_and_ports, ports};
+ghost use Rattle.ifmap_client_script.specs.Outlets.{AreOutletsLater, AreSame, CanAsk};
 ghost use Rattle.ifmap_client_script.specs.Promises.{IsCarriedOut};
 ghost use Rattle.ifmap_client_script.specs.Turns.{DoesNext, IsBeginning, IsNextLine, ReadsAt, ReadsNext, IsScriptTurn};
 
@@ -126,8 +126,7 @@ impl Script {
         outlets: &mut O,
     ) -> Outcome
         requires beginning { IsBeginning self.old }
-        requires visible { IsTrue (is_visible caller.now.host) }
-        requires unspent { AreUnspent (O.seen outlets.old) }
+        requires can_ask { CanAsk caller.now (O.seen outlets.old) }
         ensures carried { IsCarriedOut caller.now
             (source_and_ports (S.left source.old) (S.faults source.old) (O.seen outlets.old))
             (source_and_ports (S.left source.new) (S.faults source.new) (O.seen outlets.new))
@@ -151,8 +150,7 @@ impl Script {
         source: &mut S,
         outlets: &mut O,
     ) -> Result<ScriptTurn, ScriptFailure>
-        requires visible { IsTrue (is_visible caller.now.host) }
-        requires unspent { AreUnspent (O.seen outlets.old) }
+        requires { CanAsk caller.now (O.seen outlets.old) }
         ensures line { OnErr result (self.new.line ≡ self.old.line) }
         ensures turns { IsScriptTurn caller.now
             (source_and_ports (S.left source.old) (S.faults source.old) (O.seen outlets.old))
@@ -179,13 +177,11 @@ impl Script {
         next: NextLine,
         outlets: &mut O,
     ) -> Result<ScriptTurn, ScriptFailure>
-        requires visible { IsTrue (is_visible caller.now.host) }
-        requires unspent { AreUnspent (O.seen outlets.old) }
+        requires can_ask { CanAsk caller.now (O.seen outlets.old) }
         requires line { IsNextLine self.old.offset self.old.pending.bytes next }
         ensures does { DoesNext caller.now next (O.seen outlets.old) (O.seen outlets.new)
             self.old self.new result }
-        ensures later { ArePortsLater (O.seen outlets.old) (O.seen outlets.new) }
-        ensures same { AreSame (O.loans outlets.old) (O.loans outlets.new) }
+        ensures later { AreOutletsLater O.seen O.loans outlets.old outlets.new }
     {
         let NextLine { place, line } = next;
         match self.client.do_line(alloc, caller, line, outlets) {

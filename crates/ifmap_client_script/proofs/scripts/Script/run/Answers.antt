@@ -10,14 +10,18 @@ pub lines-init : goal.lines-init
 lines-init g c =
     let before = source_and_ports (g.S.Source.left c.args.source.now) (g.S.Source.faults c.args.source.now)
     (g.O.Outlets.seen c.args.outlets.now) in (
-      begin c.args.caller.now before c.args.self.now c.requires.beginning c.requires.unspent.first c.requires.unspent.second,
+      begin c.args.caller.now before c.args.self.now c.requires.beginning c.requires.can_ask.unspent.first
+          c.requires.can_ask.unspent.second,
       record { sink = refl; first = refl; second = refl },
     )
 
-pub turn-requires-clause-unspent : goal.turn-requires-clause-unspent
-turn-requires-clause-unspent g c =
+pub turn-requires : goal.turn-requires
+turn-requires g c =
     let exchanged = c.lines.invariant.0.did.exchanged in
-    record { first = exchanged.first.unspent; second = exchanged.second.unspent }
+    record {
+      unspent = record { first = exchanged.first.unspent; second = exchanged.second.unspent };
+      visible = c.requires.can_ask.visible;
+    }
 
 pub lines-preserved : goal.lines-preserved
 lines-preserved g c =
