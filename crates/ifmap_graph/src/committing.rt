@@ -41,7 +41,11 @@ impl Graph {
     {
         let mut lists = ready.lists;
         let mut ways = ready.ways;
-        accept_changes(&mut self.shelves, &ready.plan.changes.0, &mut lists.0);
+        accept_changes(
+            &mut self.shelves,
+            ready.plan.changes.as_slice(),
+            &mut lists.0,
+        );
         accept_all(&mut self.links, &mut ways.0);
         Undo {
             plan: ready.plan,

@@ -150,14 +150,14 @@ impl Graph {
         ensures err { OnErr result (IsSeenSame self.old self.new) }
     {
         bytes_tell_identifiers_apart();
-        let lists = empty_lists(alloc, plan.changes.0.len())?;
+        let lists = empty_lists(alloc, plan.changes.len())?;
         let mut ways = Vec::new(alloc);
         make_ready(
             &mut self.names,
             &mut self.shelves,
             &mut self.links,
             alloc,
-            &plan.changes.0,
+            plan.changes.as_slice(),
             &mut ways,
         )?;
         Ok(Ready {
@@ -183,9 +183,9 @@ impl Graph {
         drop_plan(
             &mut self.shelves,
             &mut self.links,
-            &ready.plan.changes.0,
-            &ready.ways.0,
+            ready.plan.changes.as_slice(),
+            ready.ways.as_slice(),
         );
-        self.release_waits(&ready.plan.changes.0);
+        self.release_waits(ready.plan.changes.as_slice());
     }
 }

@@ -55,7 +55,7 @@ fn next_rows(
         return rows.make_next(alloc, change);
     };
     let mut next = caught_up;
-    next.carry_out(&change.removed.0, &change.added.0)?;
+    next.carry_out(change.removed.as_slice(), change.added.as_slice())?;
     Ok(next)
 }
 

@@ -46,7 +46,7 @@ impl Graph {
         ensures lean { StaysLeanWithout (items_changed undo.plan.changes) self.old self.new }
         ensures backs { KeepsOtherBacks (items_changed undo.plan.changes) self.old self.new }
     {
-        self.release_waits(&undo.plan.changes.0);
+        self.release_waits(undo.plan.changes.as_slice());
         undo.plan
     }
 

@@ -94,8 +94,12 @@ impl SharedRows {
             ≡ next_on change.now.removed change.now.added self.now) }
     {
         match &self.0 {
-            Some(rows) => rows.make_next(alloc, &change.removed.0, &change.added.0),
-            None => Rows::new(alloc).make_next(alloc, &change.removed.0, &change.added.0),
+            Some(rows) => rows.make_next(alloc, change.removed.as_slice(), change.added.as_slice()),
+            None => Rows::new(alloc).make_next(
+                alloc,
+                change.removed.as_slice(),
+                change.added.as_slice(),
+            ),
         }
     }
 

@@ -36,7 +36,7 @@ const MOST_ROOM_FOR_ONE: usize = 4;
 // Whether it is worth to keep a list that gives way for a change.
 fn is_worth(rows: &SharedRows, change: &ItemChange) -> bool {
     let length = rows.as_slice().len();
-    let changed = change.removed.0.len() + change.added.0.len();
+    let changed = change.removed.len() + change.added.len();
     changed <= MOST_CHANGED
         && changed <= length / ROWS_FOR_ONE
         && rows.room() / MOST_ROOM_FOR_ONE <= length
@@ -49,8 +49,8 @@ impl Spare {
             (next_on change.now.removed change.now.added rows.now)) }
     {
         let rows = rows.share()?;
-        let removed = Many(share_rows(alloc, &change.removed.0)?);
-        let added = Many(share_rows(alloc, &change.added.0)?);
+        let removed = Many(share_rows(alloc, change.removed.as_slice())?);
+        let added = Many(share_rows(alloc, change.added.as_slice())?);
         Ok(Spare {
             rows,
             removed,
@@ -81,7 +81,7 @@ impl Spare {
         let Some(mut rows) = self.rows.into_rows() else {
             return Ok(None);
         };
-        rows.carry_out(&self.removed.0, &self.added.0)?;
+        rows.carry_out(self.removed.as_slice(), self.added.as_slice())?;
         Ok(Some(rows))
     }
 }

@@ -101,8 +101,12 @@ impl Graph {
         let mut lists = undo.lists;
         let mut ways = undo.ways;
         bytes_tell_identifiers_apart();
-        exchange_changes(&mut self.shelves, &undo.plan.changes.0, &mut lists.0);
+        exchange_changes(
+            &mut self.shelves,
+            undo.plan.changes.as_slice(),
+            &mut lists.0,
+        );
         restore_all(&mut self.links, &mut ways.0);
-        self.release_waits(&undo.plan.changes.0);
+        self.release_waits(undo.plan.changes.as_slice());
     }
 }

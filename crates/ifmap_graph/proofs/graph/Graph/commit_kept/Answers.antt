@@ -36,12 +36,12 @@ calls_make_change c =
 pub accept_changes-requires-clause-out : goal.accept_changes-requires-clause-out
 accept_changes-requires-clause-out c =
     let q = rw (← c.self.view_is) at c.requires
-    in subst (λ l. AreOut (items_changed l) c.self.inside.shelves) (sym (c.deref.ensures.value ∙ ap (λ r. r.plan.changes) c.ready.view_is))
+    in subst (λ l. AreOut (items_changed l) c.self.inside.shelves) (sym (c.as_slice.ensures ∙ ap (λ r. r.plan.changes) c.ready.view_is))
     (are_out c.self.inside.shelves (items_changed c.args.ready.plan.changes) q.drafted q.within q.apart)
 
 pub accept_changes-requires-clause-long : goal.accept_changes-requires-clause-long
 accept_changes-requires-clause-long c = ap length (c.lists.view_is ∙ ap (λ r. r.lists) c.ready.view_is) ∙ c.requires.lists
-    ∙ sym (ap length (c.deref.ensures.value ∙ ap (λ r. r.plan.changes) c.ready.view_is))
+    ∙ sym (ap length (c.as_slice.ensures ∙ ap (λ r. r.plan.changes) c.ready.view_is))
 
 pub accept_all-requires : goal.accept_all-requires
 accept_all-requires c =
@@ -71,7 +71,7 @@ pub returns-clause-lists : goal.returns-clause-lists
 returns-clause-lists c =
     rw (← c.self.view_is)
     (c.accept_changes.ensures.lists
-    ∙ ap (λ l. map (λ (x : ItemChange). stored_on x.item (rows_on_side list_now c.self.inside.shelves)) l) (c.deref.ensures.value
+    ∙ ap (λ l. map (λ (x : ItemChange). stored_on x.item (rows_on_side list_now c.self.inside.shelves)) l) (c.as_slice.ensures
     ∙ ap (λ r. r.plan.changes) c.ready.view_is)
     ∙ ap (λ rows. map (λ (x : ItemChange). stored_on x.item rows) c.args.ready.plan.changes)
     (sym (rows_shown list_now (get c.self.inside.shelves.slots) c.self.inside.shelves.places.entries)))

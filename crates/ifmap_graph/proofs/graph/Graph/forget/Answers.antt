@@ -18,35 +18,35 @@ use Rattle.ifmap_graph.proofs.Outs.{are_out}
 use Rattle.ifmap_graph.proofs.Settled.{bare_to, inside_of}
 use Rattle.ifmap_graph.proofs.Written.{first_backs, written_backs, written_now, own_stays, waits_stay_seen}
 use Rattle.ifmap_graph.proofs.graph.Graph.forget.Goals as goal
-use Rattle.ifmap_graph.proofs.graph.Graph.forget.Goals.{After-deref, After-deref-3}
+use Rattle.ifmap_graph.proofs.graph.Graph.forget.Goals.{After-as_slice, After-as_slice-3}
 
 -- the drafts of the change are out
-out : (c : After-deref) → AreOut (items_changed c.args.ready.plan.changes) c.self.inside.shelves
+out : (c : After-as_slice) → AreOut (items_changed c.args.ready.plan.changes) c.self.inside.shelves
 out c =
     let q = rw (← c.self.view_is) at c.requires.out
     in are_out c.self.inside.shelves (items_changed c.args.ready.plan.changes) q.drafted q.within q.apart
 
 -- the changes as the last call reads them
-same_changes : (c : After-deref-3) → c.deref-3.result.now ≡ c.args.ready.plan.changes
-same_changes c = c.deref-3.ensures.value ∙ ap (λ r. r.plan.changes) c.ready.view_is
+same_changes : (c : After-as_slice-3) → c.as_slice-3.result.now ≡ c.args.ready.plan.changes
+same_changes c = c.as_slice-3.ensures ∙ ap (λ r. r.plan.changes) c.ready.view_is
 
 pub drop_plan-requires-clause-there : goal.drop_plan-requires-clause-there
 drop_plan-requires-clause-there c =
     subst (λ l. AllByRecursion (λ x. IsSome (slot_of_item c.self.inside.shelves x)) (items_changed l))
-    (sym (c.deref.ensures.value ∙ ap (λ r. r.plan.changes) c.ready.view_is))
+    (sym (c.as_slice.ensures ∙ ap (λ r. r.plan.changes) c.ready.view_is))
     (drafted_there (items_changed c.args.ready.plan.changes) c.self.inside.shelves
-    (out (goal.at.drop_plan-requires-clause-there c).After-deref).drafted)
+    (out (goal.at.drop_plan-requires-clause-there c).After-as_slice).drafted)
 
 pub drop_plan-requires-clause-within : goal.drop_plan-requires-clause-within
 drop_plan-requires-clause-within c =
     subst (λ l. DraftsWithin (items_changed l) c.self.inside.shelves)
-    (sym (c.deref.ensures.value ∙ ap (λ r. r.plan.changes) c.ready.view_is))
-    (out (goal.at.drop_plan-requires-clause-within c).After-deref).within
+    (sym (c.as_slice.ensures ∙ ap (λ r. r.plan.changes) c.ready.view_is))
+    (out (goal.at.drop_plan-requires-clause-within c).After-as_slice).within
 
 pub drop_plan-requires-clause-ready : goal.drop_plan-requires-clause-ready
 drop_plan-requires-clause-ready c =
     let q = rw (← c.self.view_is) at c.requires.out
-    in subst (λ w. AreExactlyDrafted w c.self.inside.links.items) (sym (c.deref-2.ensures.value ∙ ap (λ r. r.ways) c.ready.view_is))
+    in subst (λ w. AreExactlyDrafted w c.self.inside.links.items) (sym (c.as_slice-2.ensures ∙ ap (λ r. r.ways) c.ready.view_is))
     (record { drafted = q.links; no_others = q.no_others })
 
 pub invariant_of-self : goal.invariant_of-self
@@ -65,7 +65,7 @@ release_waits-requires c =
       still = bare_to c.self.inside.names c.drop_plan.new.shelves c.drop_plan.new.links.items c.drop_plan.ensures.bare
           c.drop_plan.ensures.none;
       waits = subst (λ l. AreAwaited (items_changed l) (inside_of c.self.inside.names c.drop_plan.new.shelves c.drop_plan.new.links.items))
-          (sym (same_changes (goal.at.release_waits-requires c).After-deref-3))
+          (sym (same_changes (goal.at.release_waits-requires c).After-as_slice-3))
           (waits_stay_seen c.self.inside.names c.self.inside.links.items c.drop_plan.new.links.items c.drop_plan.ensures.stays
           (items_changed c.args.ready.plan.changes) w);
     }
@@ -96,7 +96,7 @@ returns-clause-waits c =
     rw (← c.self.view_is)
     (λ rest a. c.release_waits.ensures.waits rest
     (subst (λ l. AreAwaited (items_changed l ++ rest) (inside_of c.self.inside.names c.drop_plan.new.shelves c.drop_plan.new.links.items))
-    (sym (same_changes (goal.at.returns-clause-waits c).After-deref-3))
+    (sym (same_changes (goal.at.returns-clause-waits c).After-as_slice-3))
     (waits_stay_seen c.self.inside.names c.self.inside.links.items c.drop_plan.new.links.items c.drop_plan.ensures.stays _ a)))
 
 pub returns-clause-backs : goal.returns-clause-backs
@@ -108,14 +108,14 @@ returns-clause-backs c =
     (written_backs c.self.inside.names c.drop_plan.ensures.stays c.drop_plan.ensures.now c.drop_plan.ensures.links)
     (subst (λ l. KeepsOtherBacks (items_changed l)
     (inside_of c.self.inside.names c.drop_plan.new.shelves c.drop_plan.new.links.items) c.release_waits.new.self)
-    (same_changes (goal.at.returns-clause-backs c).After-deref-3) c.release_waits.ensures.backs))
+    (same_changes (goal.at.returns-clause-backs c).After-as_slice-3) c.release_waits.ensures.backs))
 
 pub returns-clause-lean : goal.returns-clause-lean
 returns-clause-lean c =
     rw (← c.self.view_is)
     (λ rest lean. c.release_waits.ensures.lean rest
     (subst (λ l. IsLean (items_changed l ++ rest) (inside_of c.self.inside.names c.drop_plan.new.shelves c.drop_plan.new.links.items))
-    (sym (same_changes (goal.at.returns-clause-lean c).After-deref-3))
+    (sym (same_changes (goal.at.returns-clause-lean c).After-as_slice-3))
     (same_lean c.self.inside.names c.self.inside.names c.self.inside.shelves c.drop_plan.new.shelves c.self.inside.links.items
     c.drop_plan.new.links.items c.drop_plan.ensures.stays.waits
     (λ x none. ap (λ p. lookup (is_at (item_order x)) p.entries) c.drop_plan.ensures.stays.places)

@@ -11,7 +11,7 @@ use Rattle.ifmap_graph.specs.Turning.{restore_each}
 use Rattle.ifmap_graph.proofs.Settled.{bare_from, inside_of}
 use Rattle.ifmap_graph.proofs.Undone.{GoesBack, all_there, undone_inside, undone_lean, undone_links, undone_own, undone_rows, undone_still, undone_waits}
 use Rattle.ifmap_graph.proofs.graph.Graph.undo.Goals as goal
-use Rattle.ifmap_graph.proofs.graph.Graph.undo.Goals.{After-restore_all, After-deref-2}
+use Rattle.ifmap_graph.proofs.graph.Graph.undo.Goals.{After-restore_all, After-as_slice-2}
 
 -- what the two calls did
 goes : (c : After-restore_all) → GoesBack c.self.inside.names c.self.inside.shelves c.exchange_changes.new.shelves
@@ -25,7 +25,7 @@ goes c =
       none = still.links;
       stands = λ x. c.exchange_changes.ensures.now x
           ∙ ap (λ l. stand_each (items_changed l) c.lists.inside.0.items x (stored_on x (rows_on_side list_now c.self.inside.shelves)))
-          (c.deref.ensures.value ∙ ap (λ r. r.plan.changes) c.undo.view_is)
+          (c.as_slice.ensures ∙ ap (λ r. r.plan.changes) c.undo.view_is)
           ∙ ap (λ l. stand_each (items_changed c.args.undo.plan.changes) l x (stored_on x (rows_on_side list_now c.self.inside.shelves)))
           (c.lists.view_is ∙ ap (λ r. r.lists) c.undo.view_is);
       turned = c.restore_all.ensures
@@ -33,8 +33,8 @@ goes c =
     }
 
 -- the changes as the last call reads them
-same_changes : (c : After-deref-2) → c.args.undo.plan.changes ≡ c.deref-2.result.now
-same_changes c = sym (c.deref-2.ensures.value ∙ ap (λ r. r.plan.changes) c.undo.view_is)
+same_changes : (c : After-as_slice-2) → c.args.undo.plan.changes ≡ c.as_slice-2.result.now
+same_changes c = sym (c.as_slice-2.ensures ∙ ap (λ r. r.plan.changes) c.undo.view_is)
 
 pub exchange_changes-requires-clause-bare : goal.exchange_changes-requires-clause-bare
 exchange_changes-requires-clause-bare c =
@@ -45,7 +45,7 @@ pub exchange_changes-requires-clause-there : goal.exchange_changes-requires-clau
 exchange_changes-requires-clause-there c =
     let b = rw (← c.self.view_is) at c.requires.back
     in subst (λ l. AllByRecursion (λ x. IsSome (slot_of_item c.self.inside.shelves x)) (items_changed l))
-    (sym (c.deref.ensures.value ∙ ap (λ r. r.plan.changes) c.undo.view_is))
+    (sym (c.as_slice.ensures ∙ ap (λ r. r.plan.changes) c.undo.view_is))
     (all_there c.self.inside.names c.self.inside.shelves c.self.inside.links.items (items_changed c.args.undo.plan.changes) b.2.waits)
 
 pub invariant_of-self : goal.invariant_of-self
@@ -64,7 +64,7 @@ release_waits-requires-clause-waits c =
     in let b = rw (← c.self.view_is) at c.requires.back
     in subst
     (λ l. AreAwaited (items_changed l) (inside_of c.self.inside.names c.exchange_changes.new.shelves c.restore_all.new.lists.items))
-    (same_changes place.After-deref-2)
+    (same_changes place.After-as_slice-2)
     (undone_waits (goes place.After-restore_all) (items_changed c.args.undo.plan.changes) b.2.waits)
 
 pub returns-clause-back : goal.returns-clause-back
@@ -87,7 +87,7 @@ returns-clause-waits c = λ rest a.
     in c.release_waits.ensures.waits rest
     (subst (λ l. AreAwaited (items_changed l ++ rest)
     (inside_of c.self.inside.names c.exchange_changes.new.shelves c.restore_all.new.lists.items))
-    (same_changes place.After-deref-2)
+    (same_changes place.After-as_slice-2)
     (undone_waits (goes place.After-restore_all) (items_changed c.args.undo.plan.changes ++ rest) (rw (← c.self.view_is) at a)))
 
 pub returns-clause-lean : goal.returns-clause-lean
@@ -98,5 +98,5 @@ returns-clause-lean c =
     (λ rest lean. c.release_waits.ensures.lean rest
     (subst (λ l. IsLean (items_changed l ++ rest)
     (inside_of c.self.inside.names c.exchange_changes.new.shelves c.restore_all.new.lists.items))
-    (same_changes place.After-deref-2)
+    (same_changes place.After-as_slice-2)
     (undone_lean (goes place.After-restore_all) b.0 b.1 b.2 (items_changed c.args.undo.plan.changes ++ rest) lean)))
