@@ -93,6 +93,14 @@ StaysLeanWithout items old new = (rest : List Item) → IsLean (items ++ rest) o
 abbrev pub StaysLean : GraphInside → GraphInside → Type 0
 StaysLean = StaysLeanWith []
 
+-- a change of these items is done with: none is out, they are waited for once less, no number comes, others hold as before, nothing is left
+pub record IsDoneWith (items : List Item) (old new : GraphInside) : Type 0 where
+  pub still : IsStill new
+  pub numbers : BringsNoNumbers old new
+  pub own : KeepsOwn old new
+  pub waits : AwaitsLess items old new
+  pub lean : StaysLeanWithout items old new
+
 -- an identifier has a number
 abbrev pub HasPoolNumber : GraphInside → Identifier → Type 0
 HasPoolNumber h a = (v : ℕ) × (key_at h.names v ≡ Some a)

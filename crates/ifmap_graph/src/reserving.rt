@@ -8,7 +8,7 @@ ghost use Rattle.ifmap_graph.specs.Bringing.{AreGrown, AreInside, BringsShelves,
 ghost use Rattle.ifmap_graph.specs.Drafted.{AreBare};
 ghost use Rattle.ifmap_graph.specs.Making.{IsMade, IsUnmade};
 ghost use Rattle.ifmap_graph.specs.Out.{IsOut, items_changed};
-ghost use Rattle.ifmap_graph.specs.Seen.{AreAwaited, AwaitsLess, AwaitsMore, BringsNoNumbers, HasFewOwn, IsSeenSame, IsStill, KeepsNumbers, KeepsOwn, StaysLeanWith, StaysLeanWithout, links_now, rows_next, rows_now};
+ghost use Rattle.ifmap_graph.specs.Seen.{AreAwaited, AwaitsMore, HasFewOwn, IsDoneWith, IsSeenSame, IsStill, KeepsNumbers, KeepsOwn, StaysLeanWith, links_now, rows_next, rows_now};
 ghost use Rattle.ifmap_graph.specs.Shelved.{slot_of_item, rows_on_side};
 ghost use Rattle.ifmap_graph.specs.Sides.{list_now};
 ghost use Rattle.ifmap_graph.specs.Touched.{AreExactlyDrafted};
@@ -171,13 +171,9 @@ impl Graph {
     pub fn forget(&mut self, ready: Ready)
         requires out { IsOut ready self.old }
         requires waits { AreAwaited (items_changed ready.plan.changes) self.old }
-        ensures still { IsStill self.new }
         ensures now { rows_now self.new ≡ rows_now self.old }
         ensures links { (v : ℕ) → links_now self.new v ≡ links_now self.old v }
-        ensures numbers { BringsNoNumbers self.old self.new }
-        ensures own { KeepsOwn self.old self.new }
-        ensures waits { AwaitsLess (items_changed ready.plan.changes) self.old self.new }
-        ensures lean { StaysLeanWithout (items_changed ready.plan.changes) self.old self.new }
+        ensures done { IsDoneWith (items_changed ready.plan.changes) self.old self.new }
         ensures backs { KeepsOtherBacks (items_changed ready.plan.changes) self.old self.new }
     {
         drop_plan(

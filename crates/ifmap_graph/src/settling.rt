@@ -2,7 +2,7 @@
 ghost use Rattle.std.specs.Prelude.{◌≡◌, ℕ};
 ghost use Rattle.ifmap_graph.specs.Back.{KeepsOtherBacks};
 ghost use Rattle.ifmap_graph.specs.Out.{IsOut, items_changed};
-ghost use Rattle.ifmap_graph.specs.Seen.{AreAwaited, AwaitsLess, BringsNoNumbers, IsStill, KeepsOwn, StaysLeanWithout, links_next, links_now, rows_next, rows_now};
+ghost use Rattle.ifmap_graph.specs.Seen.{AreAwaited, IsDoneWith, IsStill, links_next, links_now, rows_next, rows_now};
 ghost use Rattle.ifmap_graph.specs.Stays.{StayPlaced};
 
 use crate::changes::{Ready, Undo};
@@ -20,11 +20,7 @@ impl Graph {
         ensures now { rows_now self.new ≡ rows_now self.old }
         ensures next { rows_next self.new ≡ rows_next self.old }
         ensures links { self.new.links ≡ self.old.links }
-        ensures still { IsStill self.new }
-        ensures numbers { BringsNoNumbers self.old self.new }
-        ensures own { KeepsOwn self.old self.new }
-        ensures waits { AwaitsLess (items_changed changes.now) self.old self.new }
-        ensures lean { StaysLeanWithout (items_changed changes.now) self.old self.new }
+        ensures done { IsDoneWith (items_changed changes.now) self.old self.new }
         ensures stay { StayPlaced self.old self.new }
         ensures backs { KeepsOtherBacks (items_changed changes.now) self.old self.new }
     {
@@ -39,11 +35,7 @@ impl Graph {
         ensures plan { result ≡ undo.plan }
         ensures now { rows_now self.new ≡ rows_now self.old }
         ensures links { (v : ℕ) → links_now self.new v ≡ links_now self.old v }
-        ensures still { IsStill self.new }
-        ensures numbers { BringsNoNumbers self.old self.new }
-        ensures own { KeepsOwn self.old self.new }
-        ensures waits { AwaitsLess (items_changed undo.plan.changes) self.old self.new }
-        ensures lean { StaysLeanWithout (items_changed undo.plan.changes) self.old self.new }
+        ensures done { IsDoneWith (items_changed undo.plan.changes) self.old self.new }
         ensures backs { KeepsOtherBacks (items_changed undo.plan.changes) self.old self.new }
     {
         self.release_waits(undo.plan.changes.as_slice());
@@ -57,11 +49,7 @@ impl Graph {
         ensures plan { result ≡ ready.plan }
         ensures now { rows_now self.new ≡ rows_next self.old }
         ensures links { (v : ℕ) → links_now self.new v ≡ links_next self.old v }
-        ensures still { IsStill self.new }
-        ensures numbers { BringsNoNumbers self.old self.new }
-        ensures own { KeepsOwn self.old self.new }
-        ensures waits { AwaitsLess (items_changed ready.plan.changes) self.old self.new }
-        ensures lean { StaysLeanWithout (items_changed ready.plan.changes) self.old self.new }
+        ensures done { IsDoneWith (items_changed ready.plan.changes) self.old self.new }
     {
         let undo = self.commit_kept(ready);
         self.settle(undo)

@@ -36,7 +36,7 @@ const MOST_ROOM_FOR_ONE: usize = 4;
 // Whether it is worth to keep a list that gives way for a change.
 fn is_worth(rows: &SharedRows, change: &ItemChange) -> bool {
     let length = rows.as_slice().len();
-    let changed = change.removed.len() + change.added.len();
+    let changed = change.removed.as_slice().len() + change.added.as_slice().len();
     changed <= MOST_CHANGED
         && changed <= length / ROWS_FOR_ONE
         && rows.room() / MOST_ROOM_FOR_ONE <= length

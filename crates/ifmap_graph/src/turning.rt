@@ -7,6 +7,7 @@ ghost use Rattle.ifmap_ident.specs.Items.{same_item};
 ghost use Rattle.ifmap_plans.specs.declared.plans.ItemChange.{ItemChange};
 ghost use Rattle.ifmap_view.specs.Rows.{stored_on};
 ghost use Rattle.ifmap_graph.specs.Drafted.{AreBare, AreOut, DraftsWithin, StayInPlace};
+ghost use Rattle.ifmap_graph.specs.Out.{items_changed};
 ghost use Rattle.ifmap_graph.specs.Shelved.{AreShelved, HasDraft, slot_of_item, rows_on_side};
 ghost use Rattle.ifmap_graph.specs.Sides.{list_next, list_now};
 
@@ -63,7 +64,7 @@ pub(crate) fn accept_changes(
     lists: &mut Vec<RowList>,
 )
     requires shelved { AreShelved shelves.old }
-    requires out { AreOut (map (λ c. c.item) changes.now) shelves.old }
+    requires out { AreOut (items_changed changes.now) shelves.old }
     requires long { length lists.old.items ≡ length changes.now }
     ensures shelved { AreShelved shelves.new }
     ensures bare { AreBare shelves.new }
@@ -97,8 +98,8 @@ fn discard_at(shelves: &mut Shelves, changes: &[ItemChange], i: usize)
 pub(crate) fn discard_changes(shelves: &mut Shelves, changes: &[ItemChange])
     requires shelved { AreShelved shelves.old }
     requires there { AllByRecursion (λ x. IsSome (slot_of_item shelves.old x))
-        (map (λ c. c.item) changes.now) }
-    requires within { DraftsWithin (map (λ c. c.item) changes.now) shelves.old }
+        (items_changed changes.now) }
+    requires within { DraftsWithin (items_changed changes.now) shelves.old }
     ensures shelved { AreShelved shelves.new }
     ensures bare { AreBare shelves.new }
     ensures now { rows_on_side list_now shelves.new ≡ rows_on_side list_now shelves.old }

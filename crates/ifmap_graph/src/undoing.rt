@@ -1,5 +1,5 @@
 //! A change that was made is taken back. No call takes memory.
-ghost use Rattle.std.specs.Prelude.{◌≡◌, ℕ, ◌<◌, List, IsSome, length, map, set, slice_index_or, if◌then◌else◌};
+ghost use Rattle.std.specs.Prelude.{◌≡◌, ℕ, ◌<◌, List, IsSome, length, set, slice_index_or, if◌then◌else◌};
 ghost use Rattle.std.specs.BTreeMap.{is_at};
 ghost use Rattle.std.specs.List.{AllByRecursion};
 ghost use Rattle.ifmap_ident.specs.declared.items.Item.{Item};
@@ -12,7 +12,7 @@ ghost use Rattle.ifmap_view.specs.Rows.{stored_on};
 ghost use Rattle.ifmap_graph.specs.Back.{IsUndoTo, stand_each};
 ghost use Rattle.ifmap_graph.specs.Drafted.{AreBare, StayInPlace};
 ghost use Rattle.ifmap_graph.specs.Out.{items_changed};
-ghost use Rattle.ifmap_graph.specs.Seen.{AwaitsLess, BringsNoNumbers, IsStill, KeepsOwn, StaysLeanWithout, links_now, rows_now};
+ghost use Rattle.ifmap_graph.specs.Seen.{IsDoneWith, IsStill, links_now, rows_now};
 ghost use Rattle.ifmap_graph.specs.Shelved.{AreShelved, slot_of_item, rows_on_side};
 ghost use Rattle.ifmap_graph.specs.Sides.{list_now};
 
@@ -68,12 +68,12 @@ fn exchange_changes(shelves: &mut Shelves, changes: &[ItemChange], lists: &mut V
     requires shelved { AreShelved shelves.old }
     requires bare { AreBare shelves.old }
     requires there { AllByRecursion (λ x. IsSome (slot_of_item shelves.old x))
-        (map (λ c. c.item) changes.now) }
+        (items_changed changes.now) }
     requires long { length lists.old.items ≡ length changes.now }
     ensures shelved { AreShelved shelves.new }
     ensures bare { AreBare shelves.new }
     ensures now { (x : Item) → stored_on x (rows_on_side list_now shelves.new)
-        ≡ stand_each (map (λ c. c.item) changes.now) lists.old.items x
+        ≡ stand_each (items_changed changes.now) lists.old.items x
         (stored_on x (rows_on_side list_now shelves.old)) }
     ensures stays { StayInPlace shelves.old shelves.new }
 {
@@ -92,11 +92,7 @@ impl Graph {
         ensures back { (rows : List Attachment) (links : ℕ → List LinkSeen)
             → IsUndoTo undo rows links self.old
             → (rows_now self.new ≡ rows) × ((v : ℕ) → links_now self.new v ≡ links v) }
-        ensures still { IsStill self.new }
-        ensures numbers { BringsNoNumbers self.old self.new }
-        ensures own { KeepsOwn self.old self.new }
-        ensures waits { AwaitsLess (items_changed undo.plan.changes) self.old self.new }
-        ensures lean { StaysLeanWithout (items_changed undo.plan.changes) self.old self.new }
+        ensures done { IsDoneWith (items_changed undo.plan.changes) self.old self.new }
     {
         let mut lists = undo.lists;
         let mut ways = undo.ways;

@@ -81,12 +81,12 @@ returns-in-Err-clause-tells g c =
       told = tt;
       bare = tt;
       kept = given_up (out g place) (record {
-        still = e.still;
+        still = e.done.still;
         rows = e.now;
         links = e.links;
-        numbers = e.numbers;
-        own = e.own;
-        lean = e.lean;
+        numbers = e.done.numbers;
+        own = e.done.own;
+        lean = e.done.lean;
         backs = e.backs;
       }) c.bytes_tell_identifiers_apart.ensures c.requires.can.steady c.in-Err.ensures.keeps.err;
     }

@@ -12,14 +12,14 @@ returns-clause-steady c = λ more s.
     let xs = c.args.parts.now.standing.items in
     let ys = c.settle_all.new.standing.items in
     steady_beside c.bytes_tell_identifiers_apart.ensures c.args.parts.now.graph c.settle-plan.new.self c.is_view.ensures
-    c.settle-plan.ensures.still (subst AreWhole (sym c.settle-plan.ensures.now) s.whole) c.settle-plan.ensures.numbers
-    c.settle-plan.ensures.own xs ys more (settled_searches c.args.made.ways xs ys c.settle_all.ensures.settled) s
+    c.settle-plan.ensures.done.still (subst AreWhole (sym c.settle-plan.ensures.now) s.whole) c.settle-plan.ensures.done.numbers
+    c.settle-plan.ensures.done.own xs ys more (settled_searches c.args.made.ways xs ys c.settle_all.ensures.settled) s
 
 pub returns-clause-settled : goal.returns-clause-settled
 returns-clause-settled c = record {
   rows = c.settle-plan.ensures.now;
   links = c.settle-plan.ensures.links;
-  numbers = c.settle-plan.ensures.numbers;
+  numbers = c.settle-plan.ensures.done.numbers;
   len = c.settle_all.ensures.len;
   capacity = c.settle_all.ensures.capacity;
   searches = settled_searches c.args.made.ways c.args.parts.now.standing.items c.settle_all.new.standing.items c.settle_all.ensures.settled;
@@ -36,10 +36,10 @@ returns-clause-ready c = λ asking pending r.
     let h = c.settle-plan.new.self in
     let numbered : AllByRecursion (HasStartNumber h) xs =
     (all_both (HasStartNumber h) xs more (all_numbered c.bytes_tell_identifiers_apart.ensures g h c.is_view.ensures
-    c.settle-plan.ensures.numbers c.settle-plan.ensures.own (xs ++ more) c.requires.steady.1)).0 in
+    c.settle-plan.ensures.done.numbers c.settle-plan.ensures.done.own (xs ++ more) c.requires.steady.1)).0 in
     ready_after asking c.args.parts.now (record c.args.parts.now { graph = h; standing = c.settle_all.new.standing }) pending refl same
     (kept_settled c.same_links_keep_subscriptions.ensures c.same_marks_keep_subscriptions.ensures.settled g h c.is_view.ensures
-    c.is_view-2.ensures c.settle-plan.ensures.now c.settle-plan.ensures.links c.settle-plan.ensures.numbers c.args.made.ways
+    c.is_view-2.ensures c.settle-plan.ensures.now c.settle-plan.ensures.links c.settle-plan.ensures.done.numbers c.args.made.ways
     pending.gone.items xs ys numbered c.settle_all.ensures.settled r.kept) r
 
 pub returns-clause-state_now : goal.returns-clause-state_now
@@ -50,7 +50,7 @@ returns-clause-state_now c = λ asking pending.
     (same_left pending.gone.items xs ys (settled_searches c.args.made.ways xs ys c.settle_all.ensures.settled))
 
 pub returns-clause-waits : goal.returns-clause-waits
-returns-clause-waits c = λ rest w. c.settle-plan.ensures.waits rest w
+returns-clause-waits c = λ rest w. c.settle-plan.ensures.done.waits rest w
 
 pub returns-clause-lean : goal.returns-clause-lean
-returns-clause-lean c = λ rest l. c.settle-plan.ensures.lean rest l
+returns-clause-lean c = λ rest l. c.settle-plan.ensures.done.lean rest l

@@ -16,6 +16,7 @@ returns c = record {
       let back = c.undo.ensures.back (rows_now before.graph) (links_now before.graph) can.graph in
       are_back c.bytes_tell_identifiers_apart.ensures c.args.made before c.args.parts.now
       (record c.args.parts.now { graph = c.undo.new.self; standing = c.take_back_all.new.standing }) c.is_view.ensures c.requires.steady
-      parts can c.undo.ensures.still back.0 back.1 c.undo.ensures.numbers c.undo.ensures.own c.undo.ensures.lean
+      parts can c.undo.ensures.done.still back.0 back.1 c.undo.ensures.done.numbers c.undo.ensures.done.own
+      c.undo.ensures.done.lean
       (c.take_back_all.ensures before.standing.items can.standing) refl;
 }

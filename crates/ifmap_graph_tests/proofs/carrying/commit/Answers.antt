@@ -6,4 +6,4 @@ pub returns : goal.returns
 returns c =
     let e = c.commit-plan.ensures
     in steady_by c.args.graph.now c.commit-plan.new.self (rows_next c.args.graph.now) c.requires.own c.requires.after
-    e.still e.now e.own
+    e.done.still e.now e.done.own

@@ -6,4 +6,4 @@ pub returns : goal.returns
 returns c =
     let steady = c.requires.steady
     in let e = c.settle-plan.ensures
-    in steady_by c.args.graph.now c.settle-plan.new.self (rows_now c.args.graph.now) steady.own steady.whole e.still e.now e.own
+    in steady_by c.args.graph.now c.settle-plan.new.self (rows_now c.args.graph.now) steady.own steady.whole e.done.still e.now e.done.own

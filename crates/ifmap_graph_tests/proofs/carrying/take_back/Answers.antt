@@ -4,5 +4,5 @@ use Rattle.ifmap_graph_tests.proofs.carrying.take_back.Goals as goal
 pub returns : goal.returns
 returns c =
     let made = c.requires
-    in steady_by c.args.graph.now c.undo.new.self made.rows made.steady.own made.before c.undo.ensures.still
-    (c.undo.ensures.back made.rows made.links made.back).0 c.undo.ensures.own
+    in steady_by c.args.graph.now c.undo.new.self made.rows made.steady.own made.before c.undo.ensures.done.still
+    (c.undo.ensures.back made.rows made.links made.back).0 c.undo.ensures.done.own

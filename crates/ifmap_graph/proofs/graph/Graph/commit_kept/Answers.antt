@@ -1,4 +1,4 @@
-use Rattle.std.proofs.Common.{length, map, ap, ◌∙◌, sym, subst}
+use Rattle.std.proofs.Common.{length, map, refl, ap, ◌∙◌, sym, subst}
 use Rattle.slab.specs.Slab.{get}
 use Rattle.ifmap_plans.specs.declared.plans.ItemChange.{ItemChange}
 use Rattle.ifmap_view.specs.Rows.{stored_on}
@@ -30,23 +30,23 @@ calls_make_change c =
       drafted = q.links;
       others = q.no_others;
       turned = c.accept_all.ensures.lists
-          ∙ ap (λ w. accept_each w c.self.inside.links.items) (c.ways.view_is ∙ ap (λ r. r.ways) c.ready.view_is);
+          ∙ ap (λ w. accept_each w c.self.inside.links.items) c.ways.view_is;
     }
 
 pub accept_changes-requires-clause-out : goal.accept_changes-requires-clause-out
 accept_changes-requires-clause-out c =
     let q = rw (← c.self.view_is) at c.requires
-    in subst (λ l. AreOut (items_changed l) c.self.inside.shelves) (sym (c.as_slice.ensures ∙ ap (λ r. r.plan.changes) c.ready.view_is))
+    in subst (λ l. AreOut (items_changed l) c.self.inside.shelves) (sym c.as_slice.ensures)
     (are_out c.self.inside.shelves (items_changed c.args.ready.plan.changes) q.drafted q.within q.apart)
 
 pub accept_changes-requires-clause-long : goal.accept_changes-requires-clause-long
-accept_changes-requires-clause-long c = ap length (c.lists.view_is ∙ ap (λ r. r.lists) c.ready.view_is) ∙ c.requires.lists
-    ∙ sym (ap length (c.as_slice.ensures ∙ ap (λ r. r.plan.changes) c.ready.view_is))
+accept_changes-requires-clause-long c = ap length c.lists.view_is ∙ c.requires.lists
+    ∙ sym (ap length c.as_slice.ensures)
 
 pub accept_all-requires : goal.accept_all-requires
 accept_all-requires c =
     let q = rw (← c.self.view_is) at c.requires
-    in subst (λ w. AreDrafted w c.self.inside.links.items) (sym (c.ways.view_is ∙ ap (λ r. r.ways) c.ready.view_is)) q.links
+    in subst (λ w. AreDrafted w c.self.inside.links.items) (sym c.ways.view_is) q.links
 
 pub invariant_of-self : goal.invariant_of-self
 invariant_of-self c = made_inside (calls_make_change (goal.at.invariant_of-self c).After-accept_all)
@@ -71,18 +71,17 @@ pub returns-clause-lists : goal.returns-clause-lists
 returns-clause-lists c =
     rw (← c.self.view_is)
     (c.accept_changes.ensures.lists
-    ∙ ap (λ l. map (λ (x : ItemChange). stored_on x.item (rows_on_side list_now c.self.inside.shelves)) l) (c.as_slice.ensures
-    ∙ ap (λ r. r.plan.changes) c.ready.view_is)
+    ∙ ap (λ l. map (λ (x : ItemChange). stored_on x.item (rows_on_side list_now c.self.inside.shelves)) l) c.as_slice.ensures
     ∙ ap (λ rows. map (λ (x : ItemChange). stored_on x.item rows) c.args.ready.plan.changes)
     (sym (rows_shown list_now (get c.self.inside.shelves.slots) c.self.inside.shelves.places.entries)))
 
 pub returns-clause-ways : goal.returns-clause-ways
 returns-clause-ways c =
     rw (← c.self.view_is) (c.accept_all.ensures.ways ∙ ap (λ w. backs w c.self.inside.links.items)
-    (c.ways.view_is ∙ ap (λ r. r.ways) c.ready.view_is))
+    c.ways.view_is)
 
 pub returns-clause-plan : goal.returns-clause-plan
-returns-clause-plan c = ap (λ r. r.plan) c.ready.view_is
+returns-clause-plan c = refl
 
 pub returns-clause-back : goal.returns-clause-back
 returns-clause-back c =

@@ -28,25 +28,25 @@ out c =
 
 -- the changes as the last call reads them
 same_changes : (c : After-as_slice-3) → c.as_slice-3.result.now ≡ c.args.ready.plan.changes
-same_changes c = c.as_slice-3.ensures ∙ ap (λ r. r.plan.changes) c.ready.view_is
+same_changes c = c.as_slice-3.ensures
 
 pub drop_plan-requires-clause-there : goal.drop_plan-requires-clause-there
 drop_plan-requires-clause-there c =
     subst (λ l. AllByRecursion (λ x. IsSome (slot_of_item c.self.inside.shelves x)) (items_changed l))
-    (sym (c.as_slice.ensures ∙ ap (λ r. r.plan.changes) c.ready.view_is))
+    (sym c.as_slice.ensures)
     (drafted_there (items_changed c.args.ready.plan.changes) c.self.inside.shelves
     (out (goal.at.drop_plan-requires-clause-there c).After-as_slice).drafted)
 
 pub drop_plan-requires-clause-within : goal.drop_plan-requires-clause-within
 drop_plan-requires-clause-within c =
     subst (λ l. DraftsWithin (items_changed l) c.self.inside.shelves)
-    (sym (c.as_slice.ensures ∙ ap (λ r. r.plan.changes) c.ready.view_is))
+    (sym c.as_slice.ensures)
     (out (goal.at.drop_plan-requires-clause-within c).After-as_slice).within
 
 pub drop_plan-requires-clause-ready : goal.drop_plan-requires-clause-ready
 drop_plan-requires-clause-ready c =
     let q = rw (← c.self.view_is) at c.requires.out
-    in subst (λ w. AreExactlyDrafted w c.self.inside.links.items) (sym (c.as_slice-2.ensures ∙ ap (λ r. r.ways) c.ready.view_is))
+    in subst (λ w. AreExactlyDrafted w c.self.inside.links.items) (sym c.as_slice-2.ensures)
     (record { drafted = q.links; no_others = q.no_others })
 
 pub invariant_of-self : goal.invariant_of-self
@@ -81,23 +81,28 @@ returns-clause-links c =
     rw (← c.self.view_is)
     (λ v. ap (λ l. (sides_at l v).now) c.release_waits.ensures.links ∙ c.drop_plan.ensures.links.now v)
 
-pub returns-clause-numbers : goal.returns-clause-numbers
-returns-clause-numbers c = rw (← c.self.view_is) c.release_waits.ensures.numbers
-
-pub returns-clause-own : goal.returns-clause-own
-returns-clause-own c =
-    rw (← c.self.view_is)
-    (λ a own h. c.release_waits.ensures.own a own
-    (own_stays c.self.inside.names c.self.inside.links.items c.drop_plan.new.links.items c.drop_plan.ensures.stays a own
-    h))
-
-pub returns-clause-waits : goal.returns-clause-waits
-returns-clause-waits c =
-    rw (← c.self.view_is)
-    (λ rest a. c.release_waits.ensures.waits rest
-    (subst (λ l. AreAwaited (items_changed l ++ rest) (inside_of c.self.inside.names c.drop_plan.new.shelves c.drop_plan.new.links.items))
-    (sym (same_changes (goal.at.returns-clause-waits c).After-as_slice-3))
-    (waits_stay_seen c.self.inside.names c.self.inside.links.items c.drop_plan.new.links.items c.drop_plan.ensures.stays _ a)))
+pub returns-clause-done : goal.returns-clause-done
+returns-clause-done c =
+    let last = c.release_waits.ensures.done
+    in let same = sym (same_changes (goal.at.returns-clause-done c).After-as_slice-3)
+    in rw (← c.self.view_is)
+    (record {
+      still = last.still;
+      numbers = last.numbers;
+      own = λ a own h. last.own a own
+          (own_stays c.self.inside.names c.self.inside.links.items c.drop_plan.new.links.items c.drop_plan.ensures.stays a own h);
+      waits = λ rest a. last.waits rest
+          (subst
+          (λ l. AreAwaited (items_changed l ++ rest) (inside_of c.self.inside.names c.drop_plan.new.shelves c.drop_plan.new.links.items)) same
+          (waits_stay_seen c.self.inside.names c.self.inside.links.items c.drop_plan.new.links.items c.drop_plan.ensures.stays _ a));
+      lean = λ rest lean. last.lean rest
+          (subst (λ l. IsLean (items_changed l ++ rest) (inside_of c.self.inside.names c.drop_plan.new.shelves c.drop_plan.new.links.items))
+          same
+          (same_lean c.self.inside.names c.self.inside.names c.self.inside.shelves c.drop_plan.new.shelves c.self.inside.links.items
+          c.drop_plan.new.links.items c.drop_plan.ensures.stays.waits
+          (λ x none. ap (λ p. lookup (is_at (item_order x)) p.entries) c.drop_plan.ensures.stays.places)
+          (λ x none. ap (stored_on x) c.drop_plan.ensures.now) _ lean));
+    })
 
 pub returns-clause-backs : goal.returns-clause-backs
 returns-clause-backs c =
@@ -109,14 +114,3 @@ returns-clause-backs c =
     (subst (λ l. KeepsOtherBacks (items_changed l)
     (inside_of c.self.inside.names c.drop_plan.new.shelves c.drop_plan.new.links.items) c.release_waits.new.self)
     (same_changes (goal.at.returns-clause-backs c).After-as_slice-3) c.release_waits.ensures.backs))
-
-pub returns-clause-lean : goal.returns-clause-lean
-returns-clause-lean c =
-    rw (← c.self.view_is)
-    (λ rest lean. c.release_waits.ensures.lean rest
-    (subst (λ l. IsLean (items_changed l ++ rest) (inside_of c.self.inside.names c.drop_plan.new.shelves c.drop_plan.new.links.items))
-    (sym (same_changes (goal.at.returns-clause-lean c).After-as_slice-3))
-    (same_lean c.self.inside.names c.self.inside.names c.self.inside.shelves c.drop_plan.new.shelves c.self.inside.links.items
-    c.drop_plan.new.links.items c.drop_plan.ensures.stays.waits
-    (λ x none. ap (λ p. lookup (is_at (item_order x)) p.entries) c.drop_plan.ensures.stays.places)
-    (λ x none. ap (stored_on x) c.drop_plan.ensures.now) _ lean)))

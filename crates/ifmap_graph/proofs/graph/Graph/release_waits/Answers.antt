@@ -30,32 +30,28 @@ release_items-requires-clause-waits c =
 pub invariant_of-self : goal.invariant_of-self
 invariant_of-self c = c.release_items.ensures.less.inside c.self.inside.links.items c.self.invariant
 
-pub returns-clause-numbers : goal.returns-clause-numbers
-returns-clause-numbers c =
-    rw (← c.self.view_is)
-    (key_kept c.release_items.new.names c.self.inside.names c.release_items.ensures.less.named c.bytes_tell_identifiers_apart.ensures
-    (c.release_items.ensures.less.inside c.self.inside.links.items c.self.invariant).keys c.self.invariant.keys)
-
 pub returns-clause-now : goal.returns-clause-now
 returns-clause-now c = (items_are_released (goal.at.returns-clause-now c).After-release_items).now
 
 pub returns-clause-next : goal.returns-clause-next
 returns-clause-next c = (items_are_released (goal.at.returns-clause-next c).After-release_items).next
 
-pub returns-clause-still : goal.returns-clause-still
-returns-clause-still c = (items_are_released (goal.at.returns-clause-still c).After-release_items).still
-
-pub returns-clause-own : goal.returns-clause-own
-returns-clause-own c = (items_are_released (goal.at.returns-clause-own c).After-release_items).own
-
-pub returns-clause-waits : goal.returns-clause-waits
-returns-clause-waits c = (items_are_released (goal.at.returns-clause-waits c).After-release_items).waits
+pub returns-clause-done : goal.returns-clause-done
+returns-clause-done c =
+    let released = items_are_released (goal.at.returns-clause-done c).After-release_items
+    in record {
+      still = released.still;
+      numbers = rw (← c.self.view_is)
+          (key_kept c.release_items.new.names c.self.inside.names c.release_items.ensures.less.named
+          c.bytes_tell_identifiers_apart.ensures
+          (c.release_items.ensures.less.inside c.self.inside.links.items c.self.invariant).keys c.self.invariant.keys);
+      own = released.own;
+      waits = released.waits;
+      lean = released.lean;
+    }
 
 pub returns-clause-stay : goal.returns-clause-stay
 returns-clause-stay c = (items_are_released (goal.at.returns-clause-stay c).After-release_items).stay
 
 pub returns-clause-backs : goal.returns-clause-backs
 returns-clause-backs c = (items_are_released (goal.at.returns-clause-backs c).After-release_items).backs
-
-pub returns-clause-lean : goal.returns-clause-lean
-returns-clause-lean c = (items_are_released (goal.at.returns-clause-lean c).After-release_items).lean

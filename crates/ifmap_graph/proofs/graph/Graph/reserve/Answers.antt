@@ -28,7 +28,7 @@ change_comes_out c =
     c.make_ready.new.links.items c.args.plan.changes c.make_ready.new.ways.items
     (subst (λ l. IsMade l c.make_ready.new.ways.items (graph_fields c.self.inside.names c.self.inside.shelves c.self.inside.links.items)
     (graph_fields c.make_ready.new.names c.make_ready.new.shelves c.make_ready.new.links.items))
-    (c.as_slice.ensures ∙ ap (λ p. p.changes) c.plan.view_is) c.in_ok-make_ready.ensures.made)
+    c.as_slice.ensures c.in_ok-make_ready.ensures.made)
     c.self.view_is c.bytes_tell_identifiers_apart.ensures c.self.invariant.keys
 
 pub make_ready-requires-clause-bare : goal.make_ready-requires-clause-bare
@@ -44,7 +44,7 @@ make_ready-requires-clause-few c =
 pub make_ready-requires-clause-fits : goal.make_ready-requires-clause-fits
 make_ready-requires-clause-fits c =
     let q = rw (← c.self.view_is) at c.requires.fits
-    in subst (λ l. Fits (rows_on_side list_now c.self.inside.shelves) l) (sym (c.as_slice.ensures ∙ ap (λ p. p.changes) c.plan.view_is))
+    in subst (λ l. Fits (rows_on_side list_now c.self.inside.shelves) l) (sym c.as_slice.ensures)
     (subst (λ r. Fits r c.args.plan.changes) (rows_shown list_now (get c.self.inside.shelves.slots) c.self.inside.shelves.places.entries) q)
 
 pub returns-in_err-make_ready-clause-now : goal.returns-in_err-make_ready-clause-now
@@ -72,7 +72,7 @@ returns-clause-out c =
     made_out c.self.inside.names c.make_ready.new.names c.self.inside.shelves c.make_ready.new.shelves c.self.inside.links.items
     c.make_ready.new.links.items
     c.as_slice.result.now c.make_ready.new.ways.items c.in_ok-make_ready.ensures.made _
-    (sym (c.as_slice.ensures ∙ ap (λ p. p.changes) c.plan.view_is))
+    (sym c.as_slice.ensures)
     (c.in_ok-lists.ensures ∙ c.len.ensures ∙ sym (ap length c.as_slice.ensures)) refl
 
 pub returns-clause-after : goal.returns-clause-after

@@ -25,16 +25,16 @@ goes c =
       none = still.links;
       stands = λ x. c.exchange_changes.ensures.now x
           ∙ ap (λ l. stand_each (items_changed l) c.lists.inside.0.items x (stored_on x (rows_on_side list_now c.self.inside.shelves)))
-          (c.as_slice.ensures ∙ ap (λ r. r.plan.changes) c.undo.view_is)
+          c.as_slice.ensures
           ∙ ap (λ l. stand_each (items_changed c.args.undo.plan.changes) l x (stored_on x (rows_on_side list_now c.self.inside.shelves)))
-          (c.lists.view_is ∙ ap (λ r. r.lists) c.undo.view_is);
+          c.lists.view_is;
       turned = c.restore_all.ensures
-          ∙ ap (λ w. restore_each w c.self.inside.links.items) (c.ways.view_is ∙ ap (λ r. r.ways) c.undo.view_is);
+          ∙ ap (λ w. restore_each w c.self.inside.links.items) c.ways.view_is;
     }
 
 -- the changes as the last call reads them
 same_changes : (c : After-as_slice-2) → c.args.undo.plan.changes ≡ c.as_slice-2.result.now
-same_changes c = sym (c.as_slice-2.ensures ∙ ap (λ r. r.plan.changes) c.undo.view_is)
+same_changes c = sym c.as_slice-2.ensures
 
 pub exchange_changes-requires-clause-bare : goal.exchange_changes-requires-clause-bare
 exchange_changes-requires-clause-bare c =
@@ -45,7 +45,7 @@ pub exchange_changes-requires-clause-there : goal.exchange_changes-requires-clau
 exchange_changes-requires-clause-there c =
     let b = rw (← c.self.view_is) at c.requires.back
     in subst (λ l. AllByRecursion (λ x. IsSome (slot_of_item c.self.inside.shelves x)) (items_changed l))
-    (sym (c.as_slice.ensures ∙ ap (λ r. r.plan.changes) c.undo.view_is))
+    (sym c.as_slice.ensures)
     (all_there c.self.inside.names c.self.inside.shelves c.self.inside.links.items (items_changed c.args.undo.plan.changes) b.2.waits)
 
 pub invariant_of-self : goal.invariant_of-self
@@ -76,27 +76,24 @@ returns-clause-back c = λ rows links b.
       λ v. ap (λ l. links_at list_now l v) c.release_waits.ensures.links ∙ undone_links went rows links back v,
     )
 
-pub returns-clause-own : goal.returns-clause-own
-returns-clause-own c = λ a own h.
-    let went = goes (goal.at.returns-clause-own c).After-restore_all
-    in c.release_waits.ensures.own a own (undone_own went a own (rw (← c.self.view_is) at h))
-
-pub returns-clause-waits : goal.returns-clause-waits
-returns-clause-waits c = λ rest a.
-    let place = goal.at.returns-clause-waits c
-    in c.release_waits.ensures.waits rest
-    (subst (λ l. AreAwaited (items_changed l ++ rest)
-    (inside_of c.self.inside.names c.exchange_changes.new.shelves c.restore_all.new.lists.items))
-    (same_changes place.After-as_slice-2)
-    (undone_waits (goes place.After-restore_all) (items_changed c.args.undo.plan.changes ++ rest) (rw (← c.self.view_is) at a)))
-
-pub returns-clause-lean : goal.returns-clause-lean
-returns-clause-lean c =
-    let place = goal.at.returns-clause-lean c
+pub returns-clause-done : goal.returns-clause-done
+returns-clause-done c =
+    let place = goal.at.returns-clause-done c
+    in let went = goes place.After-restore_all
+    in let same = same_changes place.After-as_slice-2
     in let b = rw (← c.self.view_is) at c.requires.back
+    in let last = c.release_waits.ensures.done
     in rw (← c.self.view_is)
-    (λ rest lean. c.release_waits.ensures.lean rest
-    (subst (λ l. IsLean (items_changed l ++ rest)
-    (inside_of c.self.inside.names c.exchange_changes.new.shelves c.restore_all.new.lists.items))
-    (same_changes place.After-as_slice-2)
-    (undone_lean (goes place.After-restore_all) b.0 b.1 b.2 (items_changed c.args.undo.plan.changes ++ rest) lean)))
+    (record {
+      still = last.still;
+      numbers = last.numbers;
+      own = λ a own h. last.own a own (undone_own went a own h);
+      waits = λ rest a. last.waits rest
+          (subst (λ l. AreAwaited (items_changed l ++ rest)
+          (inside_of c.self.inside.names c.exchange_changes.new.shelves c.restore_all.new.lists.items)) same
+          (undone_waits went (items_changed c.args.undo.plan.changes ++ rest) a));
+      lean = λ rest lean. last.lean rest
+          (subst (λ l. IsLean (items_changed l ++ rest)
+          (inside_of c.self.inside.names c.exchange_changes.new.shelves c.restore_all.new.lists.items)) same
+          (undone_lean went b.0 b.1 b.2 (items_changed c.args.undo.plan.changes ++ rest) lean));
+    })
