@@ -16,13 +16,13 @@ use Rattle.ifmap_graph.specs.Inside.{GraphInside}
 use Rattle.ifmap_graph.specs.Seen.{IsSeenSame, IsStill}
 use Rattle.ifmap_tellings.specs.declared.tellings.Pending.{Pending}
 use Rattle.ifmap_changes.specs.declared.parts.Parts.{Parts}
-use Rattle.ifmap_changes.specs.Between.{AreKept, Asking, HasStartNumber, IsSoundSoFar, IsSteady, sight_now, state_now, starts_of}
+use Rattle.ifmap_changes.specs.Between.{AreKept, Asking, HasStartNumber, IsSoundSoFar, IsSteady, seen_now, state_now, starts_of}
 use Rattle.ifmap_changes.specs.Changes.{IsBegun}
 use Rattle.ifmap_changes.proofs.Settling.{ready_after}
 use Rattle.ifmap_tellings.specs.ifmap_standing.PlaceLaws.{kept_itself, keep_searches}
 use Rattle.ifmap_tellings.specs.ToldLaws.{same_sessions_itself}
-use Rattle.ifmap_tellings.specs.ifmap_delta.Sights.{SameLinks}
-use Rattle.ifmap_tellings.specs.ifmap_delta.Ways.{HasSameSearch}
+use Rattle.ifmap_tellings.specs.ifmap_delta.SeenViews.{SameLinks}
+use Rattle.ifmap_tellings.specs.ifmap_delta.SameSearches.{HasSameSearch}
 use Rattle.ifmap_tellings.specs.ifmap_standing.Kept.{AtEach, StaysRelated}
 use Rattle.ifmap_tellings.specs.Tellings.{HasSameSessions}
 
@@ -66,7 +66,7 @@ module _ (ready : Ready) (wanted : Plan) (old : Parts) (mid : GraphInside) (begu
       → IsSoundSoFar a begun_parts pending
   ready_begun links steady a pending r =
       ready_after a old begun_parts pending refl (keep_searches old.standing.items old.standing.items (kept_itself old.standing.items))
-      (λ i x e f. links (sight_now old.graph) (sight_now mid) x.subscription begun.before begun.now begun.rows begun.links one_identifier
+      (λ i x e f. links (seen_now old.graph) (seen_now mid) x.subscription begun.before begun.now begun.rows begun.links one_identifier
       (begun.numbers x.subscription.region.start x.subscription.search.start
       (all_got (HasStartNumber old.graph) old.standing.items i x steady.numbered e)) (r.kept i x e f)) r
 

@@ -8,8 +8,8 @@ use Rattle.std.proofs.lemmas.Option.{same_Some}
 use Rattle.ifmap_lemmas.specs.Filters.{all_weaker}
 use Rattle.ifmap_lemmas.specs.Flags.{kept_later}
 use Rattle.ifmap_lemmas.specs.Members.{map_of_all}
-use Rattle.ifmap_tellings.specs.ifmap_delta.Sights.{IsUpToDate, SameLinks}
-use Rattle.ifmap_tellings.specs.ifmap_delta.Ways.{HasSameSearch}
+use Rattle.ifmap_tellings.specs.ifmap_delta.SeenViews.{IsUpToDate, SameLinks}
+use Rattle.ifmap_tellings.specs.ifmap_delta.SameSearches.{HasSameSearch}
 use Rattle.ifmap_tellings.specs.ifmap_machine.Telling.{overflow, overflow_session, tell, tell_session, told_in_session}
 use Rattle.ifmap_graph.specs.ifmap_plans.declared.plans.Plan.{Plan}
 use Rattle.ifmap_graph.specs.ifmap_plans.Plans.{AreWhole, Fits, IsAfter}
@@ -31,8 +31,8 @@ use Rattle.ifmap_graph.specs.Seen.{AreAwaited, AwaitsMore, BringsNoNumbers, IsLe
 use Rattle.ifmap_tellings.specs.declared.tellings.Pending.{Pending}
 use Rattle.ifmap_tellings.specs.Tellings.{AreWide, HasSameSessions, IsWide, kept_items, tell_by}
 use Rattle.ifmap_changes.specs.declared.parts.Parts.{Parts}
-use Rattle.ifmap_changes.specs.Between.{AreKept, AreOrdered, AreTurnedWith, AreWithinLimits, Asking, CanEnd, HasNoSubscriptions, IsSoundSoFar, IsSteady, IsWithinLimit, sessions_left, sight_now, state_now, starts_of}
-use Rattle.ifmap_changes.specs.Changes.{CanTakeBack, IsTold, sight_next, with_next}
+use Rattle.ifmap_changes.specs.Between.{AreKept, AreOrdered, AreLaterPartsWith, AreWithinLimits, Asking, CanEnd, HasNoSubscriptions, IsSoundSoFar, IsSteady, IsWithinLimit, sessions_left, seen_now, state_now, starts_of}
+use Rattle.ifmap_changes.specs.Changes.{CanTakeBack, IsTold, seen_next, with_next}
 use Rattle.ifmap_changes.proofs.Begun.{IsOutAndTold, ready_begun, same_so_far, one_identifier}
 use Rattle.ifmap_changes.proofs.Starts.{numbered_beside, numbered_more, own_beside}
 use Rattle.ifmap_changes.proofs.OneGraph.{one_graph}
@@ -96,7 +96,7 @@ module _ {ready : Ready} {wanted : Plan} {old mid to : Parts} (out : IsOutAndTol
   commits_wanted : Commits wanted mid.graph g undo
   commits_wanted = subst (λ p. Commits p mid.graph g undo) out.begun.plan (subst (λ h. Commits ready.plan h g undo) out.graph commits)
 
-  sight_made : sight_next mid.graph ≡ sight_now g
+  sight_made : seen_next mid.graph ≡ seen_now g
   sight_made = λ i. record {
     rows = sym commits_wanted.rows i;
     id_at = λ v. key_at (sym commits_wanted.names i) v;
@@ -127,7 +127,7 @@ module _ {ready : Ready} {wanted : Plan} {old mid to : Parts} (out : IsOutAndTol
   lean_made rest l = subst (λ (p : Plan). IsLean (items_changed p.changes ++ rest) g) (sym commits_wanted.same)
       (commits_wanted.lean (awaits_out out) (items_changed wanted.changes ++ rest) (out.begun.lean rest l))
 
-  pub turned_made : AreTurnedWith (items_changed undo.plan.changes) old new
+  pub turned_made : AreLaterPartsWith (items_changed undo.plan.changes) old new
   turned_made = record {
     waits = λ rest w. subst (λ (p : Plan). AreAwaited (items_changed p.changes ++ rest) g) (sym commits_wanted.same)
         (commits_wanted.waits (items_changed wanted.changes ++ rest) (out.begun.waits rest w));

@@ -9,14 +9,14 @@
 use Rattle.std.proofs.Common.{◌≡◌, ◌≢◌, ℕ, ◌≤◌, Bool, true, false, Option, None, Some, List, [], ◌∷◌, length, map, slice_get, refl, ap, ◌∙◌, sym, subst}
 use Rattle.std.specs.List.{AllByRecursion}
 use Rattle.std.specs.List.Sorted.{IsStrictlySortedBy}
-use Rattle.ifmap_changes.specs.Between.{AreBack, AreOrdered, AreParts, AreWithinLimits, Asking, CanEnd, HasStartNumber, IsSoundSoFar, IsSeen, IsSteady, rest_of, sessions_left, sight_now}
+use Rattle.ifmap_changes.specs.Between.{AreBack, AreOrdered, AreParts, AreWithinLimits, Asking, CanEnd, HasStartNumber, IsSoundSoFar, IsSeen, IsSteady, rest_of, sessions_left, seen_now}
 use Rattle.ifmap_changes.specs.Changes.{CanTakeBack}
 use Rattle.ifmap_changes.specs.declared.changes.Made.{Made}
 use Rattle.ifmap_changes.specs.declared.parts.Parts.{Parts}
 use Rattle.ifmap_changes.proofs.EachPlace.{same_all}
 use Rattle.ifmap_changes.proofs.Steady.{HaveSameSearches, steady_after}
-use Rattle.ifmap_tellings.specs.ifmap_delta.Sights.{IsUpToDate, ViewSeen, SameLinks}
-use Rattle.ifmap_tellings.specs.ifmap_delta.Ways.{HasSameSearch}
+use Rattle.ifmap_tellings.specs.ifmap_delta.SeenViews.{IsUpToDate, ViewSeen, SameLinks}
+use Rattle.ifmap_tellings.specs.ifmap_delta.SameSearches.{HasSameSearch}
 use Rattle.ifmap_tellings.specs.ifmap_delta.declared.subscriptions.Subscription.{Subscription}
 use Rattle.ifmap_graph.specs.Inside.{GraphInside}
 use Rattle.ifmap_graph.specs.Out.{items_changed}
@@ -94,12 +94,12 @@ same_searches before old new p q = record {
 pub kept_settled : SameLinks → StaysSettled → (old new : GraphInside) → IsSeen old → IsSeen new → rows_now new ≡ rows_now old
     → ((v : ℕ) → links_now new v ≡ links_now old v) → BringsNoNumbers old new → (ways : List (Option Way))
     → (gone : List Bool) (xs ys : List Standing) → AllByRecursion (HasStartNumber new) xs → AreSettled ways xs ys
-    → AllKept (λ x. IsUpToDate (sight_now old) x.subscription) gone xs → AllKept (λ x. IsUpToDate (sight_now new) x.subscription) gone ys
+    → AllKept (λ x. IsUpToDate (seen_now old) x.subscription) gone xs → AllKept (λ x. IsUpToDate (seen_now new) x.subscription) gone ys
 kept_settled links settled old new was is rows same fewer ways gone xs ys numbered s kept = λ i y at flag.
     let x = something_at ys xs i y (sym s.long) at in
     let t = s.at i x.0 y x.1 at in
-    settled (sight_now new) (slice_get ways i) x.0.subscription y.subscription t.subscription
-    (links (sight_now old) (sight_now new) x.0.subscription was is rows same (numbers_shared old new fewer)
+    settled (seen_now new) (slice_get ways i) x.0.subscription y.subscription t.subscription
+    (links (seen_now old) (seen_now new) x.0.subscription was is rows same (numbers_shared old new fewer)
     (all_got (HasStartNumber new) xs i x.0 numbered x.1) (kept i x.0 x.1 flag))
 
 -- ---- as the machine has them
@@ -136,7 +136,7 @@ same_state s g h xs ys p q = λ k. record s { graph = p k; standing = q k }
 
 pub ready_after : (a : Asking) (old new : Parts) (pending : Pending) → new.sessions ≡ old.sessions
     → HaveSameSearches old.standing.items new.standing.items
-    → AllKept (λ x. IsUpToDate (sight_now new.graph) x.subscription) pending.gone.items new.standing.items
+    → AllKept (λ x. IsUpToDate (seen_now new.graph) x.subscription) pending.gone.items new.standing.items
     → IsSoundSoFar a old pending → IsSoundSoFar a new pending
 ready_after a old new pending same searches kept r =
     let gone = pending.gone.items in
@@ -201,7 +201,7 @@ sound_back links same old new was is sound back =
     record {
       steady = back.steady;
       ordered = subst (λ live. AreOrdered live ys) (sym back.sessions.live) (same_ordered old.sessions.live xs ys searches sound.ordered);
-      kept = same_all (λ x. IsUpToDate (sight_now old.graph) x.subscription) (λ x. IsUpToDate (sight_now new.graph) x.subscription)
+      kept = same_all (λ x. IsUpToDate (seen_now old.graph) x.subscription) (λ x. IsUpToDate (seen_now new.graph) x.subscription)
           (λ i x y. StaysRelated KeepsSame x y × HasStartNumber new.graph y) (λ i x y t kept. stays x y t.0 t.1 kept) xs ys (record {
             long = back.standing.long;
             at = λ i x y p q. (back.standing.at i x y p q, all_got (HasStartNumber new.graph) ys i y back.steady.numbered q);
@@ -209,10 +209,10 @@ sound_back links same old new was is sound back =
       within = subst AreWithinLimits (sym back.sessions.live) sound.within;
     }
   where
-    stays : (x y : Standing) → StaysRelated KeepsSame x y → HasStartNumber new.graph y → IsUpToDate (sight_now old.graph) x.subscription
-        → IsUpToDate (sight_now new.graph) y.subscription
+    stays : (x y : Standing) → StaysRelated KeepsSame x y → HasStartNumber new.graph y → IsUpToDate (seen_now old.graph) x.subscription
+        → IsUpToDate (seen_now new.graph) y.subscription
     stays x y t n kept =
         let here : HasStartNumber new.graph x = ap (key_at new.graph.names) (sym t.subscription.search.start) ∙ n
         ∙ ap (λ z. Some z.start) t.subscription.search.search in
-        same (sight_now new.graph) x.subscription y.subscription t.subscription
-        (links (sight_now old.graph) (sight_now new.graph) x.subscription was is back.rows back.links back.numbers here kept)
+        same (seen_now new.graph) x.subscription y.subscription t.subscription
+        (links (seen_now old.graph) (seen_now new.graph) x.subscription was is back.rows back.links back.numbers here kept)

@@ -2,7 +2,7 @@
 -- what is before it and after it with one numbering (`told_within`). Then the end of a session (`ended_within`).
 use Rattle.std.proofs.Common.{◌≡◌, refl, ap, sym, ◌∙◌, subst, inl, inr, ℕ, ◌≤◌, Bool, true, false, Some, List, [], ◌∷◌, map, arith}
 use Rattle.std.specs.List.{AllByRecursion, zip}
-use Rattle.ifmap_tellings.specs.ifmap_delta.Sights.{ViewSeen}
+use Rattle.ifmap_tellings.specs.ifmap_delta.SeenViews.{ViewSeen}
 use Rattle.ifmap_graph.specs.declared.changes.Ready.{Ready}
 use Rattle.ifmap_graph.specs.Seen.{rows_next, rows_now}
 use Rattle.ifmap_tellings.specs.ifmap_machine.Ending.{without_standing}
@@ -18,9 +18,9 @@ use Rattle.ifmap_tellings.specs.declared.tellings.Pending.{Pending}
 use Rattle.ifmap_tellings.specs.Tellings.{kept_items}
 use Rattle.ifmap_graph.specs.ifmap_view.declared.attachments.Attachment.{Attachment}
 use Rattle.ifmap_changes.specs.declared.parts.Parts.{Parts}
-use Rattle.ifmap_changes.specs.Between.{Asking, IsSteady, sight_now, state_now}
+use Rattle.ifmap_changes.specs.Between.{Asking, IsSteady, seen_now, state_now}
 use Rattle.ifmap_changes.specs.Bounds.{IsEndedWithin, IsPlanWithin, IsTakenWithin, IsWithinAll, IsWithinOne}
-use Rattle.ifmap_changes.specs.Changes.{sight_next}
+use Rattle.ifmap_changes.specs.Changes.{seen_next}
 use Rattle.ifmap_changes.proofs.Begun.{IsOutAndTold}
 use Rattle.ifmap_changes.proofs.OneGraph.{one_graph}
 use Rattle.ifmap_changes.proofs.Starts.{numbered_more}
@@ -58,7 +58,7 @@ module _ (old new : ViewSeen) where
 -- a change that is out was told to all that stand
 pub told_within : {ready : Ready} {wanted : Plan} {old mid to : Parts} → IsOutAndTold ready wanted old mid to → BytesTellIdentifiers
     → IsSteady old.graph old.standing.items → (a : Asking) (before : Pending) (from till : ℕ)
-    → IsWithinEach (sight_now mid.graph) (sight_next mid.graph) (zip before.gone.items mid.standing.items) from till
+    → IsWithinEach (seen_now mid.graph) (seen_next mid.graph) (zip before.gone.items mid.standing.items) from till
     → IsPlanWithin wanted (state_now a old before) from till
 told_within {ready} {wanted} {old} {mid} {to} out tells steady a before from till spent = λ rows graph after.
     let g = mid.graph
@@ -67,12 +67,12 @@ told_within {ready} {wanted} {old} {mid} {to} out tells steady a before from til
     = subst (λ (was : List Attachment). IsAfter wanted.changes was (rows_next g)) begun.rows begun.change.after
     in let one : rows_next g ≡ rows = one_graph tells (rows_next g) rows begun.next.graph graph (λ x. after_now x ∙ sym (after x))
     in inr (
-      sight_now g,
-      sight_next g,
+      seen_now g,
+      seen_next g,
       record { before = begun.now; after = begun.next; rows = begun.rows; next = one; numbers = λ v. refl },
-      within_kept (sight_now g) (sight_next g) before.gone.items old.standing.items from till
+      within_kept (seen_now g) (seen_next g) before.gone.items old.standing.items from till
           (numbered_more old.graph g old.standing.items begun.numbers steady.numbered)
-          (subst (λ (l : List Standing). IsWithinEach (sight_now g) (sight_next g) (zip before.gone.items l) from till)
+          (subst (λ (l : List Standing). IsWithinEach (seen_now g) (seen_next g) (zip before.gone.items l) from till)
           (ap (λ v. v.items) out.was_standing) spent),
     )
 

@@ -5,7 +5,7 @@ use Rattle.std.proofs.lemmas.List.{length-map}
 use Rattle.std.specs.List.{AllByRecursion}
 use Rattle.ifmap_lemmas.specs.Filters.{all_weaker}
 use Rattle.ifmap_lemmas.specs.Owners.{few_each}
-use Rattle.ifmap_tellings.specs.ifmap_delta.Ways.{HasSameSearch}
+use Rattle.ifmap_tellings.specs.ifmap_delta.SameSearches.{HasSameSearch}
 use Rattle.ifmap_ident.specs.declared.identifiers.Identifier.{Identifier}
 use Rattle.ifmap_tellings.specs.ifmap_machine.State as machine
 use Rattle.ifmap_tellings.specs.ifmap_machine.Subscribing.{most_names}

@@ -4,7 +4,7 @@ use Rattle.std.specs.List.{AllByRecursion}
 use Rattle.ifmap_changes.specs.Between.{HasStartNumber, IsSeen, IsSteady, starts_of}
 use Rattle.ifmap_changes.proofs.EachPlace.{same_all, same_sum}
 use Rattle.ifmap_changes.proofs.Numbers.{number_stays}
-use Rattle.ifmap_tellings.specs.ifmap_delta.Ways.{HasSameSearch}
+use Rattle.ifmap_tellings.specs.ifmap_delta.SameSearches.{HasSameSearch}
 use Rattle.ifmap_graph.specs.Inside.{GraphInside, IsOwn}
 use Rattle.ifmap_graph.specs.Seen.{BringsNoNumbers, IsStill, KeepsOwn, rows_now}
 use Rattle.ifmap_ident.specs.declared.identifiers.Identifier.{Identifier}

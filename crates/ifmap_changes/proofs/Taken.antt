@@ -4,13 +4,13 @@ use Rattle.std.proofs.Common.{◌≡◌, ◌≢◌, ◌∙◌, ℕ, true, Some, 
 use Rattle.std.proofs.lemmas.Result.{on_ok_weaker}
 use Rattle.std.specs.List.{AllByRecursion}
 use Rattle.std.specs.Prelude.{Result, OnOk}
-use Rattle.ifmap_changes.specs.Between.{AreWithinLimits, Asking, IsSoundSoFar, rest_of, sessions_left, sight_now, state_now}
+use Rattle.ifmap_changes.specs.Between.{AreWithinLimits, Asking, IsSoundSoFar, rest_of, sessions_left, seen_now, state_now}
 use Rattle.ifmap_changes.specs.Bounds.{IsPlanWithin, IsRetractedWithin, IsTakenWithin}
 use Rattle.ifmap_changes.specs.Changes.{CanSettle, CanTakeBack, TakesAway, TellsPlan, state_taken_from}
 use Rattle.ifmap_changes.specs.declared.changes.Made.{Made}
 use Rattle.ifmap_changes.specs.declared.parts.Parts.{Parts}
 use Rattle.ifmap_changes.proofs.EachPlace.{less_kept}
-use Rattle.ifmap_tellings.specs.ifmap_delta.Sights.{IsUpToDate}
+use Rattle.ifmap_tellings.specs.ifmap_delta.SeenViews.{IsUpToDate}
 use Rattle.ifmap_graph.specs.Seen.{rows_now}
 use Rattle.ifmap_ident.specs.Items.{IsCanonItem}
 use Rattle.ifmap_tellings.specs.ifmap_machine.Ending.{without_standing}
@@ -40,7 +40,7 @@ flagged_ready a parts old new flags stay same r =
       ended = r.ended;
       ordered = r.ordered;
       flags = flags;
-      kept = less_kept (λ x. IsUpToDate (sight_now parts.graph) x.subscription) old.gone.items new.gone.items standing r.flags stay r.kept;
+      kept = less_kept (λ x. IsUpToDate (seen_now parts.graph) x.subscription) old.gone.items new.gone.items standing r.flags stay r.kept;
       live = less_kept (λ x. IsLive x.serial (sessions_left a parts.sessions)) old.gone.items new.gone.items standing r.flags stay r.live;
       queues = r.queues;
       within = subst (λ t. AreWithinLimits (map (tell_by t) (sessions_left a parts.sessions))) (sym same) r.within;

@@ -18,8 +18,8 @@ use Rattle.ifmap_lemmas.specs.Flags.{kept_later, flags_stay}
 use Rattle.ifmap_lemmas.specs.Having.{Has, filter_has, has_filter, has_map, all_has, has_all}
 use Rattle.ifmap_lemmas.specs.Mapped.{alike_maps, map_twice, mapped_long, maps_alike, some_joined, zip_mapped}
 use Rattle.ifmap_lemmas.specs.Members.{map_of_all}
-use Rattle.ifmap_tellings.specs.ifmap_delta.Sights.{IsUpToDate}
-use Rattle.ifmap_tellings.specs.ifmap_delta.Ways.{HasSameSearch}
+use Rattle.ifmap_tellings.specs.ifmap_delta.SeenViews.{IsUpToDate}
+use Rattle.ifmap_tellings.specs.ifmap_delta.SameSearches.{HasSameSearch}
 use Rattle.ifmap_tellings.specs.ifmap_machine.State as machine
 use Rattle.ifmap_tellings.specs.ifmap_machine.Telling.{is_overfull, is_overrun, is_too_big, overflow_session, tell_session, told_in_session, told_to}
 use Rattle.ifmap_graph.specs.ifmap_plans.declared.plans.Note.{Note}
@@ -36,7 +36,7 @@ use Rattle.ifmap_tellings.specs.declared.tellings.Telling.{Telling}
 use Rattle.ifmap_tellings.specs.Tellings.{AllKept, AloneAreBare, AreWide, CanTell, EachTelling, HasSameSessions, IsSized, IsWide, SkipsGone, count_told, flags_since, flags_of_alone, is_alone, kept_items, items_for, tell_by, tell_if}
 use Rattle.ifmap_changes.specs.declared.parts.Parts.{Parts}
 use Rattle.ifmap_changes.specs.Between.{Asking, IsSoundSoFar, IsWithinLimit, sessions_left}
-use Rattle.ifmap_changes.specs.Changes.{IsTold, sight_next}
+use Rattle.ifmap_changes.specs.Changes.{IsTold, seen_next}
 use Rattle.ifmap_changes.proofs.Settling.{same_ordered, same_shown}
 use Rattle.ifmap_changes.proofs.Flags.{kept_made, kept_flagged, queued_made, skip_made}
 use Rattle.ifmap_tellings.specs.ifmap_session.laws.TableLaws.{left_live}
@@ -236,7 +236,7 @@ module _ {a : Asking} {old : Parts} {before : Pending} {notes : List Note} {stan
       (can_tell : EachTelling (CanTell sessions_now) after.tellings)
       (sized : EachTelling (λ n t. IsSized n t sessions_now.live) after.tellings)
       (bare : AloneAreBare after.tellings after.gone.items stand_now)
-      (kept : AllKept (λ x. IsUpToDate (sight_next old.graph) x.subscription) gone_flags stand_now) where
+      (kept : AllKept (λ x. IsUpToDate (seen_next old.graph) x.subscription) gone_flags stand_now) where
     -- what the sessions have to tell
     tell_each : map (tell_by after.tellings) lives ≡ map overflow_session (map told_one lives)
     tell_each =
@@ -335,12 +335,12 @@ module _ {a : Asking} {old : Parts} {before : Pending} {notes : List Note} {stan
             sessions = all i;
             standing = which i;
           };
-          kept = subst (λ xs. AllKept (λ x. IsUpToDate (sight_next new.graph) x.subscription) after.gone.items xs) (sym is_standing)
-              (kept_later (λ x. IsUpToDate (sight_next old.graph) x.subscription) (λ x. IsUpToDate (sight_next new.graph) x.subscription)
+          kept = subst (λ xs. AllKept (λ x. IsUpToDate (seen_next new.graph) x.subscription) after.gone.items xs) (sym is_standing)
+              (kept_later (λ x. IsUpToDate (seen_next old.graph) x.subscription) (λ x. IsUpToDate (seen_next new.graph) x.subscription)
               gone_flags
               after.gone.items stand_now stand_now flags_now refl
-              (λ i x y p q h. subst (λ h. IsUpToDate (sight_next h) y.subscription) (sym graph)
-              (subst (λ (z : Standing). IsUpToDate (sight_next old.graph) z.subscription) (same_Some x y (sym p ∙ q)) h)) gone_stays kept);
+              (λ i x y p q h. subst (λ h. IsUpToDate (seen_next h) y.subscription) (sym graph)
+              (subst (λ (z : Standing). IsUpToDate (seen_next old.graph) z.subscription) (same_Some x y (sym p ∙ q)) h)) gone_stays kept);
           flags = flags_after ∙ ap length (sym is_standing);
           gone = gone_stays;
           can_tell = λ n t is. record {

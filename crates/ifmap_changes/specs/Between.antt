@@ -6,8 +6,8 @@ use Rattle.ifmap_changes.specs.declared.parts.Parts.{Parts}
 use Rattle.ifmap_tellings.specs.declared.tellings.Pending.{Pending}
 use Rattle.ifmap_tellings.specs.Tellings.{AllKept, AloneAreBare, CanTell, EachTelling, HasSameSessions, IsSized, IsWide, kept_items, tell_by}
 use Rattle.ifmap_tellings.specs.ifmap_delta.declared.subscriptions.Subscription.{Subscription}
-use Rattle.ifmap_tellings.specs.ifmap_delta.Sights.{IsUpToDate, ViewSeen}
-use Rattle.ifmap_tellings.specs.ifmap_delta.Ways.{HasSameSearch}
+use Rattle.ifmap_tellings.specs.ifmap_delta.SeenViews.{IsUpToDate, ViewSeen}
+use Rattle.ifmap_tellings.specs.ifmap_delta.SameSearches.{HasSameSearch}
 use Rattle.ifmap_ident.specs.declared.identifiers.Identifier.{Identifier}
 use Rattle.ifmap_ident.specs.declared.items.Item.{Item}
 use Rattle.ifmap_ident.specs.Identifiers.{identifier_order}
@@ -43,8 +43,8 @@ pub record IsSteady (h : GraphInside) (standing : List Standing) : Type 0 where
   pub numbered : AllByRecursion (HasStartNumber h) standing
 
 -- the graph, as subscriptions see it
-abbrev pub sight_now : GraphInside → ViewSeen
-sight_now h = record { rows = rows_now h; id_at = key_at h.names; links = links_now h }
+abbrev pub seen_now : GraphInside → ViewSeen
+seen_now h = record { rows = rows_now h; id_at = key_at h.names; links = links_now h }
 
 -- what holds of every view, of the graph
 abbrev pub IsSeen : GraphInside → Type 0
@@ -83,7 +83,7 @@ state_at ttl moment parts = record {
 pub record AreParts (parts : Parts) : Type 0 where
   pub steady : IsSteady parts.graph parts.standing.items
   pub ordered : AreOrdered parts.sessions.live parts.standing.items
-  pub kept : AllByRecursion (λ x. IsUpToDate (sight_now parts.graph) x.subscription) parts.standing.items
+  pub kept : AllByRecursion (λ x. IsUpToDate (seen_now parts.graph) x.subscription) parts.standing.items
   pub within : AreWithinLimits parts.sessions.live
 
 -- and of the machine
@@ -136,7 +136,7 @@ pub record IsSoundSoFar (a : Asking) (parts : Parts) (pending : Pending) : Type 
   pub ordered : AreOrdered parts.sessions.live parts.standing.items
   pub flags : length pending.gone.items ≡ length parts.standing.items
   -- what is not gone keeps what the graph has, and is of a session that is left
-  pub kept : AllKept (λ x. IsUpToDate (sight_now parts.graph) x.subscription) pending.gone.items parts.standing.items
+  pub kept : AllKept (λ x. IsUpToDate (seen_now parts.graph) x.subscription) pending.gone.items parts.standing.items
   pub live : AllKept (λ x. IsLive x.serial (sessions_left a parts.sessions)) pending.gone.items parts.standing.items
   -- no queue is greater than its limit, also once all is told, which there is room for
   pub queues : AreWithinLimits parts.sessions.live
@@ -148,22 +148,22 @@ pub record IsSoundSoFar (a : Asking) (parts : Parts) (pending : Pending) : Type 
 
 -- parts were turned, and these items came to be out: what was waited for is still, nothing is left behind, and sessions and searches are
 -- what they were
-pub record AreTurnedWith (items : List Item) (old new : Parts) : Type 0 where
+pub record AreLaterPartsWith (items : List Item) (old new : Parts) : Type 0 where
   pub waits : AwaitsMore items old.graph new.graph
   pub lean : StaysLeanWith items old.graph new.graph
   pub searches : AtEach (λ _. StaysRelated HasSameSearch) old.standing.items new.standing.items
   pub sessions : HasSameSessions old.sessions new.sessions
 
 -- the same where none came to be
-abbrev pub AreTurned : Parts → Parts → Type 0
-AreTurned = AreTurnedWith []
+abbrev pub AreLaterParts : Parts → Parts → Type 0
+AreLaterParts = AreLaterPartsWith []
 
 -- a change was made while an event is answered, and these items came to be out: the graph is steady, what is so far is sound, and the
 -- parts were turned
 pub record AreChangedWith (items : List Item) (a : Asking) (old new : Parts) (after : Pending) : Type 0 where
   pub steady : IsSteady new.graph new.standing.items
   pub ready : IsSoundSoFar a new after
-  pub turned : AreTurnedWith items old new
+  pub turned : AreLaterPartsWith items old new
 
 -- the same where none came to be
 abbrev pub AreChanged : Asking → Parts → Parts → Pending → Type 0

@@ -1,7 +1,7 @@
 -- How many steps a change of the graph takes, of the state that it is made in: what it is is found, and all that stand are told of it.
 use Rattle.std.specs.Prelude.{◌≡◌, ◌≤◌, ◌+◌, ◌⊎◌, ℕ, List, [], ◌∷◌, length, Some}
 use Rattle.ifmap_tellings.specs.ifmap_delta.Bounds.{IsWithinBound}
-use Rattle.ifmap_tellings.specs.ifmap_delta.Sights.{ViewSeen}
+use Rattle.ifmap_tellings.specs.ifmap_delta.SeenViews.{ViewSeen}
 use Rattle.ifmap_tellings.specs.ifmap_machine.Ending.{drop_sessions}
 use Rattle.ifmap_tellings.specs.ifmap_machine.State.{Standing, State}
 use Rattle.ifmap_graph.specs.ifmap_plans.After.{items_of}

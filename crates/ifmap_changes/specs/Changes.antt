@@ -1,14 +1,14 @@
 -- Changes of the graph while an event is answered, and their ways back.
 use Rattle.std.specs.Prelude.{◌≡◌, ◌≤◌, ◌==◌, ◌||◌, ℕ, Bool, true, List, [], ◌∷◌, OnErr, OnOk, Result, Some, length, map, slice_get, vec_capacity, vec_len}
 use Rattle.std.specs.List.{AllByRecursion, list_any, zip}
-use Rattle.ifmap_changes.specs.Between.{AreChangedWith, AreKept, Asking, HasNoSubscriptions, IsSeen, IsSoundSoFar, IsSteady, SharesNumbers, rest_of, sight_now, state_now}
+use Rattle.ifmap_changes.specs.Between.{AreChangedWith, AreKept, Asking, HasNoSubscriptions, IsSeen, IsSoundSoFar, IsSteady, SharesNumbers, rest_of, seen_now, state_now}
 use Rattle.ifmap_changes.specs.declared.changes.Made.{Made}
 use Rattle.ifmap_changes.specs.declared.parts.Parts.{Parts}
 use Rattle.ifmap_tellings.specs.declared.tellings.Pending.{Pending}
 use Rattle.ifmap_tellings.specs.Tellings.{AllKept, AloneAreBare, CanTell, EachTelling, HasSameSessions, IsSized, kept_items}
 use Rattle.ifmap_tellings.specs.ifmap_delta.Changes.{ShowsAfter}
-use Rattle.ifmap_tellings.specs.ifmap_delta.Sights.{IsUpToDate, ViewSeen}
-use Rattle.ifmap_tellings.specs.ifmap_delta.Ways.{HasSameSearch}
+use Rattle.ifmap_tellings.specs.ifmap_delta.SeenViews.{IsUpToDate, ViewSeen}
+use Rattle.ifmap_tellings.specs.ifmap_delta.SameSearches.{HasSameSearch}
 use Rattle.ifmap_ident.specs.Items.{IsCanonItem}
 use Rattle.ifmap_tellings.specs.ifmap_machine.Ending.{without_standing}
 use Rattle.ifmap_tellings.specs.ifmap_machine.State.{State}
@@ -34,8 +34,8 @@ use Rattle.ifmap_graph.specs.ifmap_view.Attachments.{IsGraph}
 use Rattle.ifmap_graph.specs.ifmap_view.Views.{IsView}
 
 -- the graph as it is to be, as subscriptions see it
-abbrev pub sight_next : GraphInside → ViewSeen
-sight_next h = record { rows = rows_next h; id_at = key_at h.names; links = links_next h }
+abbrev pub seen_next : GraphInside → ViewSeen
+seen_next h = record { rows = rows_next h; id_at = key_at h.names; links = links_next h }
 
 -- the state with the graph as it is to be
 abbrev pub with_next : Asking → Parts → Pending → State
@@ -49,7 +49,7 @@ pub record IsBegun (ready : Ready) (wanted : Plan) (old new : GraphInside) : Typ
   pub before : IsSeen old
   pub now : IsSeen new
   pub next : IsView (rows_next new) (key_at new.names) (links_next new)
-  pub change : ShowsAfter (sight_now new) (sight_next new) wanted.changes
+  pub change : ShowsAfter (seen_now new) (seen_next new) wanted.changes
   pub rows : rows_now new ≡ rows_now old
   pub links : (v : ℕ) → links_now new v ≡ links_now old v
   pub numbers : KeepsNumbers old new
@@ -63,7 +63,7 @@ pub record IsBegun (ready : Ready) (wanted : Plan) (old new : GraphInside) : Typ
 -- for it, and its sizes are exact; and who is told one error in place of all has no subscription left
 pub record IsTold (a : Asking) (old : Parts) (before : Pending) (notes : List Note) (new : Parts) (after : Pending) : Type 0 where
   pub state : with_next a new after ≡ overflow (tell (rows_next old.graph) notes (state_now a old before))
-  pub kept : AllKept (λ x. IsUpToDate (sight_next new.graph) x.subscription) after.gone.items new.standing.items
+  pub kept : AllKept (λ x. IsUpToDate (seen_next new.graph) x.subscription) after.gone.items new.standing.items
   pub flags : length after.gone.items ≡ length new.standing.items
   -- what was gone is
   pub gone : (i : ℕ) → slice_get before.gone.items i ≡ Some true → slice_get after.gone.items i ≡ Some true

@@ -3,14 +3,14 @@ ghost use Rattle.std.specs.Prelude.{◌≡◌, ◌≢◌, ◌<◌, ◌≤◌, �
 ghost use Rattle.std.specs.List.{AllByRecursion, list_any, zip};
 ghost use Rattle.std.specs.List.Sorted.{IsStrictlySortedBy};
 ghost use Rattle.std.specs.Ordering.{nat_cmp};
-ghost use Rattle.ifmap_changes.specs.Between.{AreBack, AreChanged, AreKept, AreOrdered, AreParts, Asking, IsSoundSoFar, IsSteady, sight_now, state_now};
+ghost use Rattle.ifmap_changes.specs.Between.{AreBack, AreChanged, AreKept, AreOrdered, AreParts, Asking, IsSoundSoFar, IsSteady, seen_now, state_now};
 ghost use Rattle.ifmap_changes.specs.Bounds.{IsPlanWithin};
-ghost use Rattle.ifmap_changes.specs.Changes.{CanMakeChange, CanSettle, CanTakeBack, FlagsSessions, HasWaysBack, IsBegun, IsSettled, IsTold, KeepsSearches, TellsPlanOrKeeps, flags_with, sight_next};
+ghost use Rattle.ifmap_changes.specs.Changes.{CanMakeChange, CanSettle, CanTakeBack, FlagsSessions, HasWaysBack, IsBegun, IsSettled, IsTold, KeepsSearches, TellsPlanOrKeeps, flags_with, seen_next};
 ghost use Rattle.ifmap_changes.specs.declared.parts.Parts.{Parts};
 ghost use Rattle.ifmap_tellings.specs.declared.tellings.Pending.{Pending};
 ghost use Rattle.ifmap_tellings.specs.Tellings.{AllKept, HasSameSessions};
 ghost use Rattle.ifmap_tellings.specs.ifmap_delta.Changes.{ShowsAfter};
-ghost use Rattle.ifmap_tellings.specs.ifmap_delta.Sights.{IsUpToDate};
+ghost use Rattle.ifmap_tellings.specs.ifmap_delta.SeenViews.{IsUpToDate};
 ghost use Rattle.ifmap_ident.specs.Items.{IsCanonItem};
 ghost use Rattle.ifmap_graph.specs.ifmap_plans.Plans.{Fits};
 ghost use Rattle.ifmap_tellings.specs.ifmap_standing.Bounds.{IsWithinEach};
@@ -130,7 +130,7 @@ fn tell_parts<L: Ledger>(
     steps: &mut Steps<L>,
 ) -> Result<Ways, NoMemory>
     requires ready { IsSoundSoFar asking.now parts.old pending.old }
-    requires change { ShowsAfter (sight_now parts.old.graph) (sight_next parts.old.graph)
+    requires change { ShowsAfter (seen_now parts.old.graph) (seen_next parts.old.graph)
         plan.now.changes }
     requires canon { AllByRecursion (λ n. IsCanonItem n.item) plan.now.notes }
     ensures told { OnOk result (IsTold asking.now parts.old pending.old plan.now.notes parts.new
@@ -139,7 +139,7 @@ fn tell_parts<L: Ledger>(
         parts.new.standing.items) }
     ensures keeps { KeepsSearches result parts.old parts.new }
     ensures sessions { HasSameSessions parts.old.sessions parts.new.sessions }
-    ensures steps { IsWithinEach (sight_now parts.old.graph) (sight_next parts.old.graph)
+    ensures steps { IsWithinEach (seen_now parts.old.graph) (seen_next parts.old.graph)
         (zip pending.old.gone.items parts.old.standing.items) steps.old steps.new }
 {
     let told = tell_standing(alloc, parts, &pending.gone, plan, steps)?;
@@ -162,9 +162,9 @@ fn tell_standing<L: Ledger>(
     steps: &mut Steps<L>,
 ) -> Result<NewsAndWays, NoMemory>
     requires flags { length gone.now ≡ length parts.old.standing.items }
-    requires kept { AllKept (λ x. IsUpToDate (sight_now parts.old.graph) x.subscription) gone.now
+    requires kept { AllKept (λ x. IsUpToDate (seen_now parts.old.graph) x.subscription) gone.now
         parts.old.standing.items }
-    requires change { ShowsAfter (sight_now parts.old.graph) (sight_next parts.old.graph)
+    requires change { ShowsAfter (seen_now parts.old.graph) (seen_next parts.old.graph)
         plan.now.changes }
     requires canon { AllByRecursion (λ n. IsCanonItem n.item) plan.now.notes }
     ensures keeps { KeepsSearches result parts.old parts.new }
@@ -173,11 +173,11 @@ fn tell_standing<L: Ledger>(
         (rows_next parts.old.graph) plan.now.notes gone.now
         (map standing_of parts.old.standing.items)) }
     ensures kept { OnOk result
-        (AllKept (λ x. IsUpToDate (sight_next parts.old.graph) x.subscription)
+        (AllKept (λ x. IsUpToDate (seen_next parts.old.graph) x.subscription)
         gone.now parts.new.standing.items) }
     ensures ways { IfOk result (λ told. LeadBack parts.old.standing.items told.ways
         parts.new.standing.items) }
-    ensures steps { IsWithinEach (sight_now parts.old.graph) (sight_next parts.old.graph)
+    ensures steps { IsWithinEach (seen_now parts.old.graph) (seen_next parts.old.graph)
         (zip gone.now parts.old.standing.items) steps.old steps.new }
 {
     let draft = Draft::of(&parts.graph);

@@ -6,14 +6,14 @@ use Rattle.std.proofs.lemmas.Option.{same_Some}
 use Rattle.std.specs.List.{AllByRecursion}
 use Rattle.std.specs.List.Sorted.{IsStrictlySortedBy}
 use Rattle.std.specs.Option.{IfSome}
-use Rattle.ifmap_subscribes.specs.ifmap_changes.Between.{AreOrdered, AreParts, AreWithinLimits, IsSteady, sight_now}
+use Rattle.ifmap_subscribes.specs.ifmap_changes.Between.{AreOrdered, AreParts, AreWithinLimits, IsSteady, seen_now}
 use Rattle.ifmap_subscribes.specs.ifmap_changes.declared.parts.Parts.{Parts}
 use Rattle.ifmap_core.specs.Completions.{FitsAfter, WouldBeParts, after_former, after_completion, poll_found, rename_in}
 use Rattle.ifmap_core.specs.declared.completions.Completion.{Completion}
 use Rattle.ifmap_core.specs.declared.completions.Completion.TheVariants.{Say, Accept, End, Open, Rename, Poll}
 use Rattle.ifmap_core.proofs.Applying.{bare_stays, fits_within, live_changed, within_renewed}
 use Rattle.ifmap_core.proofs.Renamed.{all_renamed, others_few}
-use Rattle.ifmap_subscribes.specs.ifmap_delta.Sights.{IsUpToDate}
+use Rattle.ifmap_subscribes.specs.ifmap_delta.SeenViews.{IsUpToDate}
 use Rattle.ifmap_lemmas.specs.Members.{all_of_map}
 use Rattle.ifmap_lemmas.specs.Numbers.{equal_numbers}
 use Rattle.ifmap_subscribes.specs.ifmap_machine.declared.events.Answer.{Answer}
@@ -168,7 +168,7 @@ module _ (serial moment : ℕ) (renamings : List Renaming) (old new : Parts) (ta
           (all_shown old.standing.items w_ordered.live)));
       few = few_after;
     };
-    kept = subst (AllByRecursion (λ (x : Standing). IsUpToDate (sight_now new.graph) x.subscription)) (append-nil new.standing.items)
+    kept = subst (AllByRecursion (λ (x : Standing). IsUpToDate (seen_now new.graph) x.subscription)) (append-nil new.standing.items)
         rest.kept;
     within = subst AreWithinLimits (sym moved)
         (within_renewed serial moment new.sessions.live (subst AreWithinLimits (sym (are.told one found).1)

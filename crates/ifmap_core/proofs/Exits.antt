@@ -2,7 +2,7 @@
 use Rattle.std.proofs.Common.{Result, Ok, Err}
 use Rattle.std.proofs.lemmas.Bool.{false≢true}
 use Rattle.std.specs.Result.{IsErr}
-use Rattle.ifmap_subscribes.specs.ifmap_changes.Between.{AreBack, AreKept, AreTurned, IsSteady}
+use Rattle.ifmap_subscribes.specs.ifmap_changes.Between.{AreBack, AreKept, AreLaterParts, IsSteady}
 use Rattle.ifmap_subscribes.specs.ifmap_changes.declared.parts.Parts.{Parts}
 use Rattle.ifmap_subscribes.specs.ifmap_changes.KeptLaws.{error_keeps}
 use Rattle.ifmap_core.proofs.Turned.{stays_turned}
@@ -18,7 +18,7 @@ module _ {X E : Type 0} where
   -- parts that stay, whatever the result
   pub stays_turns : (r : Result X E) (parts : Parts) → IsSteady parts.graph parts.standing.items → TurnsOrKeeps r parts parts
   stays_turns r parts steady = record {
-    turned = on_ok r (AreTurned parts parts) (stays_turned parts);
+    turned = on_ok r (AreLaterParts parts parts) (stays_turned parts);
     kept = error_keeps r parts steady;
   }
 

@@ -14,7 +14,7 @@ use Rattle.std.specs.List.Sorted.{IsStrictlySortedBy}
 use Rattle.std.specs.Option.{IfSome}
 use Rattle.std.specs.Ordering.{nat_cmp}
 use Rattle.std.specs.declared.cmp.Ordering.TheVariants.{Less}
-use Rattle.ifmap_subscribes.specs.ifmap_changes.Between.{AreKept, AreParts, AreTurned, AreWithinLimits, Asking, CanEnd, IsSoundSoFar, IsSteady, IsWithinLimit, sessions_left, sight_now, state_now, state_at}
+use Rattle.ifmap_subscribes.specs.ifmap_changes.Between.{AreKept, AreParts, AreLaterParts, AreWithinLimits, Asking, CanEnd, IsSoundSoFar, IsSteady, IsWithinLimit, sessions_left, seen_now, state_now, state_at}
 use Rattle.ifmap_subscribes.specs.ifmap_changes.Changes.{CanSettle, CanTakeBack, IsSettled, state_taken_from}
 use Rattle.ifmap_subscribes.specs.ifmap_changes.declared.changes.Made.{Made}
 use Rattle.ifmap_subscribes.specs.ifmap_changes.declared.parts.Parts.{Parts}
@@ -25,8 +25,8 @@ use Rattle.ifmap_core.proofs.Ended.{without_none}
 use Rattle.ifmap_core.proofs.Places.{all_are_kept, kept_both}
 use Rattle.ifmap_core.proofs.Told.{none_told}
 use Rattle.ifmap_core.proofs.Turned.{all_there, shares_later}
-use Rattle.ifmap_subscribes.specs.ifmap_delta.Sights.{IsUpToDate}
-use Rattle.ifmap_subscribes.specs.ifmap_delta.Ways.{HasSameSearch}
+use Rattle.ifmap_subscribes.specs.ifmap_delta.SeenViews.{IsUpToDate}
+use Rattle.ifmap_subscribes.specs.ifmap_delta.SameSearches.{HasSameSearch}
 use Rattle.ifmap_subscribes.specs.ifmap_graph.Out.{items_changed}
 use Rattle.ifmap_subscribes.specs.ifmap_graph.Seen.{KeepsNumbers, links_now, rows_now}
 use Rattle.ifmap_lemmas.specs.Filters.{all_filter}
@@ -94,7 +94,7 @@ module _ (a : Asking) (parts : Parts) (pending : Pending) (sound : AreParts part
     ended = can;
     ordered = sound.ordered;
     flags = flags;
-    kept = all_are_kept (λ x. IsUpToDate (sight_now parts.graph) x.subscription) pending.gone.items parts.standing.items sound.kept;
+    kept = all_are_kept (λ x. IsUpToDate (seen_now parts.graph) x.subscription) pending.gone.items parts.standing.items sound.kept;
     live = kept_both (λ (x : Standing). list_any (λ n. n == x.serial) a.ended ≡ false)
         (λ (x : Standing). IsLive x.serial parts.sessions.live)
         (λ (x : Standing). IsLive x.serial (sessions_left a parts.sessions)) lives pending.gone.items parts.standing.items stay
@@ -235,7 +235,7 @@ module _ (a : Asking) (old new : Parts) (pending : Pending) (settled : IsSettled
 
 -- ---- a change that was made, after more
 
-pub can_settle_later : (made : Made) (old new : Parts) → CanSettle made old → AreTurned old new → CanSettle made new
+pub can_settle_later : (made : Made) (old new : Parts) → CanSettle made old → AreLaterParts old new → CanSettle made new
 can_settle_later made old new c t = record {
   waits = t.waits (items_changed made.undo.plan.changes) c.waits;
   ways = omega (arith, c.ways, t.searches.long);

@@ -14,14 +14,14 @@ use Rattle.std.specs.List.Sorted.{IsStrictlySortedBy}
 use Rattle.std.specs.Option.{IfSome}
 use Rattle.std.specs.Ordering.{nat_cmp}
 use Rattle.std.specs.Prelude.{vec_capacity, vec_len}
-use Rattle.ifmap_subscribes.specs.ifmap_changes.Between.{AreWithinLimits, Asking, HasNoSubscriptions, IsSoundSoFar, IsSteady, rest_of, sessions_left, sight_now, state_now, state_at, HasStartNumber}
+use Rattle.ifmap_subscribes.specs.ifmap_changes.Between.{AreWithinLimits, Asking, HasNoSubscriptions, IsSoundSoFar, IsSteady, rest_of, sessions_left, seen_now, state_now, state_at, HasStartNumber}
 use Rattle.ifmap_subscribes.specs.ifmap_changes.declared.parts.Parts.{Parts}
 use Rattle.ifmap_core.specs.Completions.{CanApply, CanApplyTo, CanOpen, CanRename, FitsAfter, WouldBeParts, after_former, after_completion, starts_in}
 use Rattle.ifmap_core.specs.declared.completions.Completion.{Completion}
 use Rattle.ifmap_core.specs.declared.completions.Completion.TheVariants.{Say, Accept, End, Open, Rename, Poll}
 use Rattle.ifmap_core.proofs.Taking.{map_after}
 use Rattle.ifmap_core.proofs.Told.{none_mapped, told_by_leaves}
-use Rattle.ifmap_subscribes.specs.ifmap_delta.Sights.{IsUpToDate}
+use Rattle.ifmap_subscribes.specs.ifmap_delta.SeenViews.{IsUpToDate}
 use Rattle.ifmap_subscribes.specs.ifmap_graph.Seen.{rows_now}
 use Rattle.ifmap_lemmas.specs.Members.{all_both, both_all, all_two}
 use Rattle.ifmap_lemmas.specs.Options.{is_some_of, some_is}
@@ -104,18 +104,18 @@ module _ (a : Asking) (old new : Parts) (pending : Pending) (ready : IsSoundSoFa
     numbered_now : AllByRecursion (HasStartNumber new.graph) new.standing.items × AllByRecursion (HasStartNumber new.graph) more
     numbered_now = all_both (HasStartNumber new.graph) new.standing.items more steady.numbered
 
-    kept_now : AllByRecursion (λ (x : Standing). IsUpToDate (sight_now new.graph) x.subscription) new.standing.items
+    kept_now : AllByRecursion (λ (x : Standing). IsUpToDate (seen_now new.graph) x.subscription) new.standing.items
     kept_now =
-        all_two (HasStartNumber new.graph) (λ (x : Standing). IsUpToDate (sight_now old.graph) x.subscription)
-        (λ (x : Standing). IsUpToDate (sight_now new.graph) x.subscription) (λ x key was. kept x.subscription key was) new.standing.items
-        numbered_now.0 (all_now (λ (x : Standing). IsUpToDate (sight_now old.graph) x.subscription)
-        (kept_all (λ (x : Standing). IsUpToDate (sight_now old.graph) x.subscription) pending.gone.items old.standing.items ready.kept))
+        all_two (HasStartNumber new.graph) (λ (x : Standing). IsUpToDate (seen_now old.graph) x.subscription)
+        (λ (x : Standing). IsUpToDate (seen_now new.graph) x.subscription) (λ x key was. kept x.subscription key was) new.standing.items
+        numbered_now.0 (all_now (λ (x : Standing). IsUpToDate (seen_now old.graph) x.subscription)
+        (kept_all (λ (x : Standing). IsUpToDate (seen_now old.graph) x.subscription) pending.gone.items old.standing.items ready.kept))
 
-    more_now : AllByRecursion (λ (x : Standing). IsUpToDate (sight_now old.graph) x.subscription) more
-        → AllByRecursion (λ (x : Standing). IsUpToDate (sight_now new.graph) x.subscription) more
+    more_now : AllByRecursion (λ (x : Standing). IsUpToDate (seen_now old.graph) x.subscription) more
+        → AllByRecursion (λ (x : Standing). IsUpToDate (seen_now new.graph) x.subscription) more
     more_now was =
-        all_two (HasStartNumber new.graph) (λ (x : Standing). IsUpToDate (sight_now old.graph) x.subscription)
-        (λ (x : Standing). IsUpToDate (sight_now new.graph) x.subscription) (λ x key was. kept x.subscription key was) more numbered_now.1
+        all_two (HasStartNumber new.graph) (λ (x : Standing). IsUpToDate (seen_now old.graph) x.subscription)
+        (λ (x : Standing). IsUpToDate (seen_now new.graph) x.subscription) (λ x key was. kept x.subscription key was) more numbered_now.1
         was
 
     pub would_be : WouldBeParts more new
@@ -189,7 +189,7 @@ module _ (a : Asking) (old new : Parts) (pending : Pending) (ready : IsSoundSoFa
         session = can.session;
         steady = steady;
         ordered = rising_now;
-        kept = both_all (λ (x : Standing). IsUpToDate (sight_now new.graph) x.subscription) new.standing.items (starts_by renamings)
+        kept = both_all (λ (x : Standing). IsUpToDate (seen_now new.graph) x.subscription) new.standing.items (starts_by renamings)
             (kept_now (starts_by renamings) steady) (more_now (starts_by renamings) steady can.kept);
         places = let all = can.places in omega (arith, all, len, capacity);
         room = let all = can.room in let left_over = spare serial can.live in omega (arith, all, left_over);

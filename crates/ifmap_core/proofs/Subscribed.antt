@@ -14,7 +14,7 @@ use Rattle.std.specs.Ordering.{nat_cmp}
 use Rattle.std.specs.Option.{option_to_list}
 use Rattle.std.specs.Prelude.{vec_capacity, vec_len}
 use Rattle.std.specs.declared.cmp.Ordering.TheVariants.{Less}
-use Rattle.ifmap_subscribes.specs.ifmap_changes.Between.{AreKept, AreTurned, AreWithinLimits, Asking, IsSoundSoFar, IsSteady, IsWithinLimit, sessions_left, sight_now, state_now}
+use Rattle.ifmap_subscribes.specs.ifmap_changes.Between.{AreKept, AreLaterParts, AreWithinLimits, Asking, IsSoundSoFar, IsSteady, IsWithinLimit, sessions_left, seen_now, state_now}
 use Rattle.ifmap_subscribes.specs.ifmap_changes.declared.parts.Parts.{Parts}
 use Rattle.ifmap_core.specs.Answering.{TurnsOrKeeps}
 use Rattle.ifmap_core.specs.Completions.{CanRename, LeadsToAnswer, after_completion, state_with_error, rename_in}
@@ -24,8 +24,8 @@ use Rattle.ifmap_core.proofs.Overrun.{Grows, IsFit, changed_within, grows_rising
 use Rattle.ifmap_core.proofs.Places.{all_are_kept, kept_both, searched_itself}
 use Rattle.ifmap_core.proofs.Told.{before_told, one_numbered, told_by_leaves, told_rising}
 use Rattle.ifmap_core.proofs.Turned.{shares_later, turned_twice}
-use Rattle.ifmap_subscribes.specs.ifmap_delta.Sights.{IsUpToDate}
-use Rattle.ifmap_subscribes.specs.ifmap_delta.Ways.{HasSameSearch}
+use Rattle.ifmap_subscribes.specs.ifmap_delta.SeenViews.{IsUpToDate}
+use Rattle.ifmap_subscribes.specs.ifmap_delta.SameSearches.{HasSameSearch}
 use Rattle.ifmap_subscribes.specs.ifmap_graph.Seen.{rows_now}
 use Rattle.ifmap_lemmas.specs.Filters.{all_weaker}
 use Rattle.ifmap_lemmas.specs.Mapped.{one_at_most}
@@ -61,12 +61,12 @@ pub ready_there : (a : Asking) (old new : Parts) (pending : Pending) → new.ses
 ready_there a old new pending sessions standing there steady r =
     let numbers = all_are_kept (λ (x : Standing). key_at new.graph.names x.subscription.region.start ≡ Some x.subscription.search.start)
     pending.gone.items new.standing.items steady.numbered in
-    let kept : AllKept (λ (x : Standing). IsUpToDate (sight_now new.graph) x.subscription) pending.gone.items new.standing.items =
-    kept_both (λ (x : Standing). IsUpToDate (sight_now old.graph) x.subscription)
+    let kept : AllKept (λ (x : Standing). IsUpToDate (seen_now new.graph) x.subscription) pending.gone.items new.standing.items =
+    kept_both (λ (x : Standing). IsUpToDate (seen_now old.graph) x.subscription)
     (λ (x : Standing). key_at new.graph.names x.subscription.region.start ≡ Some x.subscription.search.start)
-    (λ (x : Standing). IsUpToDate (sight_now new.graph) x.subscription)
+    (λ (x : Standing). IsUpToDate (seen_now new.graph) x.subscription)
     (λ x k n. there x.subscription n k) pending.gone.items new.standing.items
-    (subst (AllKept (λ (x : Standing). IsUpToDate (sight_now old.graph) x.subscription) pending.gone.items) (sym standing) r.kept) numbers
+    (subst (AllKept (λ (x : Standing). IsUpToDate (seen_now old.graph) x.subscription) pending.gone.items) (sym standing) r.kept) numbers
     in
     record {
       ended = rw sessions r.ended;
@@ -81,7 +81,7 @@ ready_there a old new pending sessions standing there steady r =
       alone = rw standing r.alone;
     }
 
-holds_turned : (old new : Parts) → OnlyHolds old new → AreTurned old new
+holds_turned : (old new : Parts) → OnlyHolds old new → AreLaterParts old new
 holds_turned old new h = record {
   waits = h.waits;
   lean = h.lean;

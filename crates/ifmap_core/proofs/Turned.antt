@@ -7,10 +7,10 @@ use Rattle.std.proofs.Common.{◌≡◌, refl, sym, ◌∙◌, ap, subst, ℕ, L
 use Rattle.std.proofs.lemmas.Option.{same_Some}
 use Rattle.std.specs.List.{AllByRecursion}
 use Rattle.std.specs.List.Sorted.{IsStrictlySortedBy}
-use Rattle.ifmap_subscribes.specs.ifmap_changes.Between.{AreBack, AreKept, AreOrdered, AreParts, AreTurned, IsSteady, SharesNumbers, sight_now, state_at, IsSeen}
+use Rattle.ifmap_subscribes.specs.ifmap_changes.Between.{AreBack, AreKept, AreOrdered, AreParts, AreLaterParts, IsSteady, SharesNumbers, seen_now, state_at, IsSeen}
 use Rattle.ifmap_subscribes.specs.ifmap_changes.declared.parts.Parts.{Parts}
 use Rattle.ifmap_core.proofs.Places.{searched_itself, shown_kept}
-use Rattle.ifmap_subscribes.specs.ifmap_delta.Sights.{IsUpToDate, SameLinks}
+use Rattle.ifmap_subscribes.specs.ifmap_delta.SeenViews.{IsUpToDate, SameLinks}
 use Rattle.ifmap_subscribes.specs.ifmap_graph.Back.{KeepsBacks}
 use Rattle.ifmap_subscribes.specs.ifmap_graph.Inside.{GraphInside, IsOwn}
 use Rattle.ifmap_subscribes.specs.ifmap_graph.Seen.{IsStill, KeepsNumbers, StaysLean, links_now, rows_now}
@@ -46,7 +46,7 @@ back_itself parts steady = record {
   sessions = same_sessions_itself parts.sessions;
 }
 
-pub stays_turned : (parts : Parts) → AreTurned parts parts
+pub stays_turned : (parts : Parts) → AreLaterParts parts parts
 stays_turned parts = record {
   waits = λ rest w. w;
   lean = λ rest l. l;
@@ -56,7 +56,7 @@ stays_turned parts = record {
 
 -- ---- one after the other
 
-pub turned_twice : (a b c : Parts) → AreTurned a b → AreTurned b c → AreTurned a c
+pub turned_twice : (a b c : Parts) → AreLaterParts a b → AreLaterParts b c → AreLaterParts a c
 turned_twice a b c s t = record {
   waits = λ rest w. t.waits rest (s.waits rest w);
   lean = λ rest l. t.lean rest (s.lean rest l);
@@ -78,12 +78,12 @@ back_state ttl moment old new b =
 pub keeps_there : SameLinks → (old new : GraphInside) → IsSeen old → IsSeen new → rows_now new ≡ rows_now old
     → ((v : ℕ) → links_now new v ≡ links_now old v) → SharesNumbers old new → KeepsNumbered old new
 keeps_there law old new was is rows links numbers sub here kept =
-    law (sight_now old) (sight_now new) sub was is rows links numbers here kept
+    law (seen_now old) (seen_now new) sub was is rows links numbers here kept
 
 -- all that stand keep what the graph has, where they kept it and hold their starts
 pub all_there : (old new : GraphInside) → KeepsNumbered old new → (xs : List Standing)
     → AllByRecursion (λ x. key_at new.names x.subscription.region.start ≡ Some x.subscription.search.start) xs
-    → AllByRecursion (λ x. IsUpToDate (sight_now old) x.subscription) xs → AllByRecursion (λ x. IsUpToDate (sight_now new) x.subscription)
+    → AllByRecursion (λ x. IsUpToDate (seen_now old) x.subscription) xs → AllByRecursion (λ x. IsUpToDate (seen_now new) x.subscription)
     xs
 all_there old new k [] n h = tt
 all_there old new k (x ∷ xs) n h = (k x.subscription n.0 h.0, all_there old new k xs n.1 h.1)
@@ -105,9 +105,9 @@ kept_room a b c k graph standing sessions = record {
   backs = rw graph k.backs;
 }
 
-pub turned_room : (a b c : Parts) → AreTurned a b → c.graph ≡ b.graph → c.standing.items ≡ b.standing.items
+pub turned_room : (a b c : Parts) → AreLaterParts a b → c.graph ≡ b.graph → c.standing.items ≡ b.standing.items
     → HasSameSessions b.sessions c.sessions
-    → AreTurned a c
+    → AreLaterParts a c
 turned_room a b c k graph standing sessions = record {
   waits = rw graph k.waits;
   lean = rw graph k.lean;

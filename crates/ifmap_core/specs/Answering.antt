@@ -1,6 +1,6 @@
 -- What the functions that answer a request are given, and what they give.
 use Rattle.std.specs.Prelude.{ℕ, List, IfOk, OnErr, OnOk, Result}
-use Rattle.ifmap_subscribes.specs.ifmap_changes.Between.{AreKept, AreTurned, Asking, IsSoundSoFar, IsSteady, state_now}
+use Rattle.ifmap_subscribes.specs.ifmap_changes.Between.{AreKept, AreLaterParts, Asking, IsSoundSoFar, IsSteady, state_now}
 use Rattle.ifmap_subscribes.specs.ifmap_changes.declared.parts.Parts.{Parts}
 use Rattle.ifmap_core.specs.Bounds.{IsWithinOwn}
 use Rattle.ifmap_core.specs.declared.completions.Completion.{Completion}
@@ -18,7 +18,7 @@ pub record CanAnswer (a : Asking) (parts : Parts) (pending : Pending) : Type 0 w
 
 -- the parts were turned, or after an error they are kept
 pub record TurnsOrKeeps {X E : Type 0} (result : Result X E) (old new : Parts) : Type 0 where
-  pub turned : OnOk result (AreTurned old new)
+  pub turned : OnOk result (AreLaterParts old new)
   pub kept : OnErr result (AreKept old new)
 
 -- a completion, if there is one, can be applied and leads to that state and answer

@@ -3,7 +3,7 @@ use Rattle.std.specs.Prelude.{◌≡◌, ◌≢◌, ◌+◌, ◌-◌, ◌^◌, �
 use Rattle.std.specs.BTreeMap.{get}
 use Rattle.std.specs.List.{AllByRecursion}
 use Rattle.std.specs.Ordering.{nat_cmp}
-use Rattle.ifmap_subscribes.specs.ifmap_changes.Between.{AreOrdered, AreWithinLimits, Asking, HasNoSubscriptions, IsSoundSoFar, IsSteady, rest_of, sessions_left, sight_now, state_now}
+use Rattle.ifmap_subscribes.specs.ifmap_changes.Between.{AreOrdered, AreWithinLimits, Asking, HasNoSubscriptions, IsSoundSoFar, IsSteady, rest_of, sessions_left, seen_now, state_now}
 use Rattle.ifmap_core.specs.declared.completions.Completion.{Completion}
 use Rattle.ifmap_core.specs.declared.completions.Completion.TheVariants.{Say, Accept, End, Open, Rename, Poll}
 use Rattle.ifmap_core.specs.declared.owning.Owner.{Owner}
@@ -14,7 +14,7 @@ use Rattle.ifmap_subscribes.specs.declared.renamings.Renaming.{Renaming}
 use Rattle.ifmap_subscribes.specs.ifmap_tellings.declared.tellings.Pending.{Pending}
 use Rattle.ifmap_subscribes.specs.Renamings.{CanRenameEach, IsOfSession, starts_by, item_count, rename_all, told_in_parts, told_so_far}
 use Rattle.ifmap_subscribes.specs.ifmap_tellings.Tellings.{IsWide, count_where}
-use Rattle.ifmap_subscribes.specs.ifmap_delta.Sights.{IsUpToDate}
+use Rattle.ifmap_subscribes.specs.ifmap_delta.SeenViews.{IsUpToDate}
 use Rattle.ifmap_ident.specs.declared.codes.Code.TheVariants.{InvalidSessionID, PollResultsTooBig}
 use Rattle.ifmap_subscribes.specs.ifmap_machine.declared.events.Answer.{Answer}
 use Rattle.ifmap_subscribes.specs.ifmap_machine.declared.events.Answer.TheVariants as the_answer
@@ -96,7 +96,7 @@ pub record CanOpen (former : Option ℕ) (opening : Opening) (limit : ℕ) (tabl
 pub record CanRename (serial : ℕ) (renamings : List Renaming) (a : Asking) (parts : Parts) (pending : Pending) : Type 0 where
   pub live : IsLive serial (sessions_left a parts.sessions)
   pub session : AllByRecursion (IsOfSession serial) renamings
-  pub kept : AllByRecursion (λ x. IsUpToDate (sight_now parts.graph) x.subscription) (starts_by renamings)
+  pub kept : AllByRecursion (λ x. IsUpToDate (seen_now parts.graph) x.subscription) (starts_by renamings)
   pub places : vec_len parts.standing + length renamings ≤ vec_capacity parts.standing
   pub room : count_where (get nat_cmp pending.tellings serial) + item_count renamings ≤ spare_of serial parts.sessions.spare
   pub within : (s : Session) → session_with_serial serial (state_now a parts pending).sessions ≡ Some s
@@ -154,7 +154,7 @@ starts_in (Poll serial again) = []
 pub record WouldBeParts (more : List Standing) (parts : Parts) : Type 0 where
   pub steady : IsSteady parts.graph (parts.standing.items ++ more)
   pub ordered : AreOrdered parts.sessions.live parts.standing.items
-  pub kept : AllByRecursion (λ x. IsUpToDate (sight_now parts.graph) x.subscription) parts.standing.items
+  pub kept : AllByRecursion (λ x. IsUpToDate (seen_now parts.graph) x.subscription) parts.standing.items
   pub within : AreWithinLimits parts.sessions.live
 
 -- an event can be finished by a completion: the graph is steady once what the completion is to make stand does, what is so far is sound,

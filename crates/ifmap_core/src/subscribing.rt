@@ -3,7 +3,7 @@ ghost use Rattle.std.specs.Prelude.{◌≡◌, ◌≤◌, ◌<◌, ◌+◌, ◌+
 ghost use Rattle.std.specs.BTreeMap.{get};
 ghost use Rattle.std.specs.List.{AllByRecursion};
 ghost use Rattle.std.specs.Ordering.{nat_cmp};
-ghost use Rattle.ifmap_subscribes.specs.ifmap_changes.Between.{AreKept, AreTurned, IsSoundSoFar, IsSteady, sessions_left, state_now};
+ghost use Rattle.ifmap_subscribes.specs.ifmap_changes.Between.{AreKept, AreLaterParts, IsSoundSoFar, IsSteady, sessions_left, state_now};
 ghost use Rattle.ifmap_core.specs.Answering.{CanAnswer, GivesCompletion, TurnsOrKeeps};
 ghost use Rattle.ifmap_core.specs.Completions.{state_with_error};
 ghost use Rattle.ifmap_core.specs.Subscribing.{AcceptsReady, AreReadyIn};
@@ -188,7 +188,7 @@ fn let_go(parts: &mut Parts, pending: &Pending, asking: &Asking, made: Many<Rena
     ensures ready { IsSoundSoFar asking.now parts.new pending.now }
     ensures state_now { state_now asking.now parts.new pending.now
         ≡ state_now asking.now parts.old pending.now }
-    ensures turned { AreTurned parts.old parts.new }
+    ensures turned { AreLaterParts parts.old parts.new }
     ensures kept { AreKept parts.old parts.new }
     ensures sessions { parts.new.sessions ≡ parts.old.sessions }
     ensures standing { parts.new.standing ≡ parts.old.standing }

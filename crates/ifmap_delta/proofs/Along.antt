@@ -13,7 +13,7 @@ use Rattle.ifmap_search.specs.declared.searches.Search.{Search}
 use Rattle.ifmap_view.specs.declared.attachments.Attachment.{Attachment}
 use Rattle.ifmap_delta.specs.Flipped.{AreFlipsOf, IsFlipAt, is_one_marked}
 use Rattle.ifmap_folds.specs.Notes.{is_told, told_notes}
-use Rattle.ifmap_delta.specs.Sights.{ViewSeen}
+use Rattle.ifmap_delta.specs.SeenViews.{ViewSeen}
 use Rattle.ifmap_delta.specs.Touched.{planned_items}
 use Rattle.ifmap_ident.specs.declared.items.Item.{Item}
 

@@ -25,7 +25,7 @@ use Rattle.ifmap_fresh.specs.Matching.{is_match, one_meets}
 use Rattle.ifmap_delta.specs.Bounds.{IsFlip}
 use Rattle.ifmap_delta.specs.Changes.{ShowsAfter}
 use Rattle.ifmap_delta.specs.Flipped.{AreFlipsOf, IsFlipAt, is_one_marked}
-use Rattle.ifmap_delta.specs.Sights.{Links, ViewSeen}
+use Rattle.ifmap_delta.specs.SeenViews.{Links, ViewSeen}
 use Rattle.ifmap_fresh.specs.laws.JoiningLaws.{linked_matches, match_turned, matches_linked, some_if_met}
 use Rattle.ifmap_fresh.specs.laws.SameLaws.{pair_canon, pair_is, pair_parts}
 use Rattle.ifmap_ident.specs.SameLaws.{BytesTellIdentifiers, same_item_is}

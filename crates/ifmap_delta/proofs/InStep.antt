@@ -4,7 +4,7 @@ use Rattle.std.proofs.lemmas.List.{take_more}
 use Rattle.std.proofs.lemmas.Option.{none-some}
 use Rattle.ifmap_ident.specs.declared.identifiers.Identifier.{Identifier}
 use Rattle.ifmap_delta.specs.Located.{AreEach, IsNumberOf}
-use Rattle.ifmap_delta.specs.Sights.{ViewSeen}
+use Rattle.ifmap_delta.specs.SeenViews.{ViewSeen}
 
 module _ {X Y : Type 0} (R : X → Y → Type 0) where
   pub each_long : (xs : List X) (ys : List Y) → AreEach R xs ys → length ys ≡ length xs

@@ -5,8 +5,8 @@ use Rattle.ifmap_search.specs.declared.searches.Search.{Search}
 use Rattle.ifmap_fresh.specs.Fresh.{fresh_size}
 use Rattle.ifmap_delta.specs.declared.subscriptions.Subscription.{Subscription}
 use Rattle.ifmap_delta.specs.Changes.{WouldKeep}
-use Rattle.ifmap_delta.specs.Sights.{AreMarks, IsUpToDate, ViewSeen}
-use Rattle.ifmap_delta.specs.Ways.{HasSameSearch}
+use Rattle.ifmap_delta.specs.SeenViews.{AreMarks, IsUpToDate, ViewSeen}
+use Rattle.ifmap_delta.specs.SameSearches.{HasSameSearch}
 
 -- marks that are the same at each number
 pub same_marks : (g : ViewSeen) (s : Search) (start top : ℕ) (mark mark' : ℕ → Option ℕ) → ((v : ℕ) → mark' v ≡ mark v)

@@ -25,7 +25,7 @@ use Rattle.ifmap_fresh.specs.Reached.{is_expanded, is_reached}
 use Rattle.ifmap_fresh.specs.Walked.{IsExpanded}
 use Rattle.ifmap_delta.specs.Located.{IsNumberOf}
 use Rattle.ifmap_delta.specs.Shown.{goes_on}
-use Rattle.ifmap_delta.specs.Sights.{AreMarks, HaveMarks, Links, ViewSeen, is_terminal_in}
+use Rattle.ifmap_delta.specs.SeenViews.{AreMarks, HaveMarks, Links, ViewSeen, is_terminal_in}
 use Rattle.ifmap_delta.proofs.InStep.{number_found, number_none}
 
 -- the region of a search has its marks

@@ -13,7 +13,7 @@ use Rattle.ifmap_delta.specs.Bounds.{IsNear, IsWithinBound, one_and_links}
 use Rattle.ifmap_delta.specs.Changes.{ShowsAfter}
 use Rattle.ifmap_delta.specs.Flipped.{AreFlipsOf}
 use Rattle.ifmap_delta.specs.Shown.{goes_on}
-use Rattle.ifmap_delta.specs.Sights.{AreMarks, Links, ViewSeen, is_terminal_in}
+use Rattle.ifmap_delta.specs.SeenViews.{AreMarks, Links, ViewSeen, is_terminal_in}
 use Rattle.ifmap_delta.specs.Touched.{looked_along, turns}
 use Rattle.ifmap_lemmas.specs.Branches.{same_not_apart}
 use Rattle.ifmap_delta.proofs.Walking.{moved_near, old_depths, repaired_within, turned_within}

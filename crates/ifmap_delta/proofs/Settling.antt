@@ -34,7 +34,7 @@ use Rattle.ifmap_fresh.specs.Numbered.{KeepsWalks}
 use Rattle.ifmap_fresh.specs.Reached.{is_expanded, is_reached}
 use Rattle.ifmap_delta.specs.Changes.{ShowsAfter}
 use Rattle.ifmap_delta.specs.Shown.{goes_on}
-use Rattle.ifmap_delta.specs.Sights.{AreMarks, ViewSeen}
+use Rattle.ifmap_delta.specs.SeenViews.{AreMarks, ViewSeen}
 use Rattle.ifmap_delta.specs.Touched.{HasNothingToTell, brought_items, link_item, is_looked_at_either, linked_items, moved_items, planned_items, turns}
 use Rattle.ifmap_delta.proofs.Flipping.{change_at, stored_same}
 use Rattle.ifmap_fresh.specs.laws.JoiningLaws.{match_turned, some_if_met}

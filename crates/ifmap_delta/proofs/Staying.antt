@@ -26,7 +26,7 @@ use Rattle.ifmap_delta.specs.Changes.{ShowsAfter}
 use Rattle.ifmap_delta.specs.Flipped.{AreFlipsOf, IsFlipAt, is_marked, is_near, is_one_marked}
 use Rattle.ifmap_delta.specs.Located.{AreEach, AreLocated, IsLocatedTwice, IsNumberOf}
 use Rattle.ifmap_delta.specs.Shown.{goes_on}
-use Rattle.ifmap_delta.specs.Sights.{AreMarks, Links, ViewSeen, is_terminal_in}
+use Rattle.ifmap_delta.specs.SeenViews.{AreMarks, Links, ViewSeen, is_terminal_in}
 use Rattle.ifmap_delta.specs.Touched.{HasNothingToTell, is_looked_at_either, moved_items, planned_items}
 use Rattle.ifmap_delta.proofs.InStep.{number_found, number_none}
 use Rattle.ifmap_delta.proofs.Marking.{LevelsExpand, LevelsReach, expanded_is, not_expanded, not_reached, reached_is}

@@ -32,7 +32,7 @@ use Rattle.ifmap_fresh.specs.Fresh.{fresh, is_found, is_looked_at}
 use Rattle.ifmap_fresh.specs.Gathered.{stored_entry, gathered_rows, has_item}
 use Rattle.ifmap_folds.specs.Differences.{difference, entry_bytes, has_entry, same_entry}
 use Rattle.ifmap_delta.specs.Shown.{shown_on}
-use Rattle.ifmap_delta.specs.Sights.{ViewSeen}
+use Rattle.ifmap_delta.specs.SeenViews.{ViewSeen}
 use Rattle.ifmap_delta.specs.Touched.{has_met, surplus_on}
 use Rattle.ifmap_fresh.specs.laws.GatheringLaws.{gathers, items_grouped, all_items, row_entry}
 use Rattle.ifmap_fresh.specs.laws.SameLaws.{member}

@@ -26,7 +26,7 @@ use Rattle.ifmap_fresh.specs.Linking.{is_terminal_at}
 use Rattle.ifmap_delta.specs.Bounds.{IsFlip, IsNear, one_and_links}
 use Rattle.ifmap_delta.specs.Changes.{ShowsAfter}
 use Rattle.ifmap_delta.specs.Flipped.{AreFlipsOf}
-use Rattle.ifmap_delta.specs.Sights.{Links, ViewSeen, is_terminal_in}
+use Rattle.ifmap_delta.specs.SeenViews.{Links, ViewSeen, is_terminal_in}
 use Rattle.ifmap_delta.proofs.Flipping.{added_flip, linked_have_identifiers, old_there, removed_flip, removed_linked, there_mid, there_old}
 use Rattle.ifmap_delta.proofs.Marking.{walk_marked}
 use Rattle.ifmap_region.specs.DepthLaws.{walk_over}

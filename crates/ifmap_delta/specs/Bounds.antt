@@ -4,7 +4,7 @@ use Rattle.ifmap_region.specs.Bounds.{IsWithin}
 use Rattle.ifmap_region.specs.Flips.{InBoth}
 use Rattle.ifmap_region.specs.Near.{Near, IsTouched}
 use Rattle.ifmap_search.specs.declared.searches.Search.{Search}
-use Rattle.ifmap_delta.specs.Sights.{ViewSeen, Links, is_terminal_in}
+use Rattle.ifmap_delta.specs.SeenViews.{ViewSeen, Links, is_terminal_in}
 
 -- how many steps a change may take for one number that is near and for each of its links
 abbrev pub near_steps : ℕ

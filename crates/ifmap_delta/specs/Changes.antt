@@ -13,7 +13,7 @@ use Rattle.ifmap_delta.specs.declared.subscriptions.Subscribed.{Subscribed}
 use Rattle.ifmap_delta.specs.declared.subscriptions.Subscribed.TheVariants.{Kept, TooBig}
 use Rattle.ifmap_delta.specs.declared.subscriptions.Subscription.{Subscription}
 use Rattle.ifmap_folds.specs.Differences.{difference}
-use Rattle.ifmap_delta.specs.Sights.{AreMarks, IsUpToDate, ViewSeen}
+use Rattle.ifmap_delta.specs.SeenViews.{AreMarks, IsUpToDate, ViewSeen}
 
 -- a kept subscription is one of the search from the start, with its result; it is refused exactly
 -- where the size of the result is greater than the search allows

@@ -10,7 +10,7 @@ use Rattle.ifmap_search.specs.declared.searches.Search.{Search}
 use Rattle.ifmap_view.specs.Rows.{stored_on}
 use Rattle.ifmap_fresh.specs.Matching.{one_meets}
 use Rattle.ifmap_delta.specs.declared.locating.LocatedChange.{LocatedChange}
-use Rattle.ifmap_delta.specs.Sights.{ViewSeen}
+use Rattle.ifmap_delta.specs.SeenViews.{ViewSeen}
 
 -- a number is there and has a mark
 abbrev pub is_marked : (ℕ → Option ℕ) → Option ℕ → Bool

@@ -1,9 +1,9 @@
 -- What subscriptions keep and are told, in reading order.
-pub mod Sights
+pub mod SeenViews
 pub mod Bounds
 pub mod Changes
 pub mod Located
-pub mod Ways
+pub mod SameSearches
 pub mod Shown
 pub mod Flipped
 pub mod Touched

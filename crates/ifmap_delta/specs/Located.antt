@@ -11,7 +11,7 @@ use Rattle.ifmap_delta.specs.Changes.{ShowsAfter}
 use Rattle.ifmap_delta.specs.declared.locating.Located.{Located}
 use Rattle.ifmap_delta.specs.declared.locating.LocatedChange.{LocatedChange}
 use Rattle.ifmap_delta.specs.declared.locating.LocatedPlan.{LocatedPlan}
-use Rattle.ifmap_delta.specs.Sights.{ViewSeen}
+use Rattle.ifmap_delta.specs.SeenViews.{ViewSeen}
 
 -- the number of an identifier in a view, where it is live there
 pub record IsNumberOf (g : ViewSeen) (a : Identifier) (number : Option ℕ) : Type 0 where

@@ -17,7 +17,7 @@ use Rattle.ifmap_fresh.specs.Fresh.{is_looked_at}
 use Rattle.ifmap_fresh.specs.Linking.{is_terminal_at}
 use Rattle.ifmap_delta.specs.declared.marks.Patched.{Patched}
 use Rattle.ifmap_delta.specs.declared.sides.Side.{Side}
-use Rattle.ifmap_delta.specs.Sights.{HaveMarks, ViewSeen, view_seen}
+use Rattle.ifmap_delta.specs.SeenViews.{HaveMarks, ViewSeen, view_seen}
 
 -- walks go on from a number with this identifier and mark
 abbrev pub goes_on : Search → Option Identifier → Option ℕ → Bool

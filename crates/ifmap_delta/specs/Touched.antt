@@ -26,7 +26,7 @@ use Rattle.ifmap_fresh.specs.Fresh.{is_looked_at}
 use Rattle.ifmap_fresh.specs.Gathered.{stored_entry, has_item}
 use Rattle.ifmap_fresh.specs.Linking.{end_where}
 use Rattle.ifmap_delta.specs.Shown.{goes_on}
-use Rattle.ifmap_delta.specs.Sights.{ViewSeen}
+use Rattle.ifmap_delta.specs.SeenViews.{ViewSeen}
 use Rattle.ifmap_delta.specs.declared.pairing.TouchedItem.{TouchedItem}
 
 -- the items of a plan's changes that pass a test

@@ -5,7 +5,7 @@ ghost use Rattle.ifmap_delta.specs.Bounds.{IsNear, IsWithinBound, one_and_links}
 ghost use Rattle.ifmap_delta.specs.Changes.{IsMovedBetween};
 ghost use Rattle.ifmap_delta.specs.Flipped.{is_near};
 ghost use Rattle.ifmap_delta.specs.Located.{IsPlannedDraft};
-ghost use Rattle.ifmap_delta.specs.Sights.{AreMarks, HasMarks, IsUpToDate, view_seen};
+ghost use Rattle.ifmap_delta.specs.SeenViews.{AreMarks, HasMarks, IsUpToDate, view_seen};
 ghost use Rattle.ifmap_region.specs.Bounds.{IsWithin};
 ghost use Rattle.ifmap_region.specs.Marks.{mark_of, mark_over};
 

@@ -3,7 +3,7 @@ ghost use Rattle.std.specs.Prelude.{◌≡◌, ◌≢◌, false, ◌+◌, ◌∷
 ghost use Rattle.std.specs.List.{AllByRecursion};
 ghost use Rattle.std.specs.List.Sorted.{IsStrictlySortedBy};
 ghost use Rattle.ifmap_delta.specs.Shown.{AreSides, shown_on};
-ghost use Rattle.ifmap_delta.specs.Sights.{view_seen};
+ghost use Rattle.ifmap_delta.specs.SeenViews.{view_seen};
 ghost use Rattle.ifmap_delta.specs.Touched.{IsChanged, change_at, has_met, items_touched, surplus, surplus_on, rows_touched_by};
 ghost use Rattle.ifmap_ident.specs.Items.{IsCanonItem, item_order};
 ghost use Rattle.ifmap_ident.specs.declared.items.Item.{Item};

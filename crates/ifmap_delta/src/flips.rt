@@ -3,7 +3,7 @@ ghost use Rattle.std.specs.Prelude.{◌≡◌, ◌++◌, [], true, Some, IfOk, O
 ghost use Rattle.std.specs.List.{cons_option};
 ghost use Rattle.ifmap_delta.specs.Flipped.{AreFlipsOf, IsFlipAt, is_one_marked};
 ghost use Rattle.ifmap_delta.specs.Located.{AreLocated, IsLocatedTwice};
-ghost use Rattle.ifmap_delta.specs.Sights.{ViewSeen};
+ghost use Rattle.ifmap_delta.specs.SeenViews.{ViewSeen};
 ghost use Rattle.ifmap_region.specs.declared.flips.Flip.{Flip};
 ghost use Rattle.ifmap_region.specs.Marks.{mark_of};
 

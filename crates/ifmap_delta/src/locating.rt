@@ -1,7 +1,7 @@
 //! Where the items of a plan stand in the graph and in the draft.
 ghost use Rattle.std.specs.Prelude.{◌≡◌, IfOk};
 ghost use Rattle.ifmap_delta.specs.Located.{AreLocated, AreNotesLocated, IsLocated, IsLocatedPlan, IsLocatedTwice};
-ghost use Rattle.ifmap_delta.specs.Sights.{view_seen};
+ghost use Rattle.ifmap_delta.specs.SeenViews.{view_seen};
 ghost use Rattle.ifmap_view.specs.Views.{IsView};
 
 use ifmap_ident::Item;

@@ -3,7 +3,7 @@ ghost use Rattle.std.specs.Prelude.{◌≡◌, ◌&&◌, ◌++◌, ◌∷◌, []
 ghost use Rattle.std.specs.List.{AllByRecursion};
 ghost use Rattle.ifmap_folds.specs.Notes.{is_told, told_notes};
 ghost use Rattle.ifmap_delta.specs.Located.{AreNotesLocated, IsLocated};
-ghost use Rattle.ifmap_delta.specs.Sights.{HasMarks, view_seen};
+ghost use Rattle.ifmap_delta.specs.SeenViews.{HasMarks, view_seen};
 ghost use Rattle.ifmap_delta.specs.Shown.{HasSideMarks, SeesView, region_mark};
 ghost use Rattle.ifmap_ident.specs.Items.{IsCanonItem};
 ghost use Rattle.ifmap_view.specs.Views.{IsView};

@@ -2,7 +2,7 @@
 ghost use Rattle.std.specs.Prelude.{◌≡◌};
 ghost use Rattle.ifmap_folds.specs.Notes.{counts_on};
 ghost use Rattle.ifmap_delta.specs.Located.{IsLocated, IsNumberOf};
-ghost use Rattle.ifmap_delta.specs.Sights.{view_seen};
+ghost use Rattle.ifmap_delta.specs.SeenViews.{view_seen};
 ghost use Rattle.ifmap_delta.specs.Shown.{HasSideMarks, SeesView, goes_on, shown_on};
 ghost use Rattle.ifmap_fresh.specs.Fresh.{is_looked_at};
 ghost use Rattle.ifmap_fresh.specs.Reached.{is_expanded, is_reached};

@@ -1,7 +1,7 @@
 //! How a subscription begins.
 ghost use Rattle.std.specs.Prelude.{◌≡◌, Some, IfOk, length};
 ghost use Rattle.ifmap_delta.specs.Changes.{IsSubscribed};
-ghost use Rattle.ifmap_delta.specs.Sights.{AreMarks, view_seen};
+ghost use Rattle.ifmap_delta.specs.SeenViews.{AreMarks, view_seen};
 ghost use Rattle.ifmap_fresh.specs.Linking.{IsReachedAt};
 ghost use Rattle.ifmap_ident.specs.Canon.{IsIdentifier};
 ghost use Rattle.ifmap_region.specs.Bounds.{IsWithin};

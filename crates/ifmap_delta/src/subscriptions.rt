@@ -1,8 +1,8 @@
 //! Subscriptions, and what a change of the graph does to one.
 ghost use Rattle.std.specs.Prelude.{◌≡◌, ℕ, Option, List, None, Some, IsSome, is_some, OnOk, OnErr};
 ghost use Rattle.ifmap_delta.specs.Changes.{WouldKeep};
-ghost use Rattle.ifmap_delta.specs.Sights.{IsUpToDate, ViewSeen};
-ghost use Rattle.ifmap_delta.specs.Ways.{HasSameSearch};
+ghost use Rattle.ifmap_delta.specs.SeenViews.{IsUpToDate, ViewSeen};
+ghost use Rattle.ifmap_delta.specs.SameSearches.{HasSameSearch};
 ghost use Rattle.ifmap_region.specs.Marks.{mark_of, mark_over, row_of};
 ghost use Rattle.ifmap_region.specs.Ways.{HasRoom, IsWayBack, Makes, OnlyRoom, Sweeps, taken_from};
 

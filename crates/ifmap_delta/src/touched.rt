@@ -3,7 +3,7 @@ ghost use Rattle.std.specs.Prelude.{◌≡◌, ◌≤◌, ◌<◌, ◌+◌, [], 
 ghost use Rattle.std.specs.List.{AllByRecursion, IsDistinct, cons_option};
 ghost use Rattle.ifmap_delta.specs.Changes.{ShowsAfter};
 ghost use Rattle.ifmap_delta.specs.Located.{AreLocated, IsLocatedTwice};
-ghost use Rattle.ifmap_delta.specs.Sights.{view_seen};
+ghost use Rattle.ifmap_delta.specs.SeenViews.{view_seen};
 ghost use Rattle.ifmap_delta.specs.Shown.{HasSideMarks, SeesView, patched_mark, region_mark};
 ghost use Rattle.ifmap_delta.specs.Touched.{AreTouched, brought_items, link_item, linked_items, looked_along, moved_items, planned_items};
 ghost use Rattle.ifmap_fresh.specs.Collected.{numbers_of};

@@ -7,8 +7,8 @@ use Rattle.std.proofs.Common.{◌∙◌, sym, subst, arith}
 use Rattle.std.proofs.lemmas.Option.{same_Some}
 use Rattle.std.specs.List.{AllByRecursion, filter}
 use Rattle.ifmap_delta.specs.Changes.{WouldKeep}
-use Rattle.ifmap_delta.specs.Sights.{AreMarks, IsUpToDate, ViewSeen, SameLinks}
-use Rattle.ifmap_delta.specs.Ways.{HasSameSearch}
+use Rattle.ifmap_delta.specs.SeenViews.{AreMarks, IsUpToDate, ViewSeen, SameLinks}
+use Rattle.ifmap_delta.specs.SameSearches.{HasSameSearch}
 use Rattle.ifmap_delta.specs.declared.subscriptions.Subscription.{Subscription}
 use Rattle.ifmap_fresh.specs.Fresh.{fresh_size}
 use Rattle.ifmap_graph.specs.declared.changes.Ready.{Ready}
@@ -36,7 +36,7 @@ use Rattle.ifmap_requests.specs.declared.publish_ops.PublishOp.TheVariants.{Dele
 use Rattle.ifmap_view.specs.declared.attachments.Attachment.{Attachment}
 use Rattle.ifmap_view.specs.Rows.{stored_on}
 use Rattle.ifmap_view.specs.Views.{IsView}
-use Rattle.ifmap_delta_tests.specs.Worlds.{IsQuiet, IsUnderWay, ShowsSame, sight_next, sight_now}
+use Rattle.ifmap_delta_tests.specs.Worlds.{IsQuiet, IsUnderWay, ShowsSame, seen_next, seen_now}
 use Rattle.ifmap_ident.specs.SameLaws.{item_itself}
 use Rattle.ifmap_graph.specs.NumberLaws.{once_few}
 
@@ -94,7 +94,7 @@ quiet_made mid new whole few rows still own = record {
 
 -- the graph shows what it was to show
 sight_made : (mid new : GraphInside) → rows_now new ≡ rows_next mid → ((v : ℕ) → links_now new v ≡ links_next mid v)
-    → new.names ≡ mid.names → sight_next mid ≡ sight_now new
+    → new.names ≡ mid.names → seen_next mid ≡ seen_now new
 sight_made mid new rows links names = λ i. record {
   rows = sym rows i;
   id_at = λ v. key_at (sym names i) v;
@@ -102,7 +102,7 @@ sight_made mid new rows links names = λ i. record {
 }
 
 pub kept_made : (mid new : GraphInside) (sub : Subscription) → rows_now new ≡ rows_next mid
-    → ((v : ℕ) → links_now new v ≡ links_next mid v) → new.names ≡ mid.names → IsUpToDate (sight_next mid) sub → IsUpToDate (sight_now new)
+    → ((v : ℕ) → links_now new v ≡ links_next mid v) → new.names ≡ mid.names → IsUpToDate (seen_next mid) sub → IsUpToDate (seen_now new)
     sub
 kept_made mid new sub rows links names kept = subst (λ (g : ViewSeen). IsUpToDate g sub) (sight_made mid new rows links names) kept
 
@@ -110,9 +110,9 @@ kept_made mid new sub rows links names kept = subst (λ (g : ViewSeen). IsUpToDa
 
 pub kept_begun : SameLinks → (old new : GraphInside) (ready : Ready) (sub : Subscription)
     → IsView (rows_now old) (key_at old.names) (links_now old)
-    → IsUnderWay new ready → ShowsSame old new → IsUpToDate (sight_now old) sub → IsUpToDate (sight_now new) sub
+    → IsUnderWay new ready → ShowsSame old new → IsUpToDate (seen_now old) sub → IsUpToDate (seen_now new) sub
 kept_begun law old new ready sub seen way same kept =
-    law (sight_now old) (sight_now new) sub seen way.now same.rows same.links
+    law (seen_now old) (seen_now new) sub seen way.now same.rows same.links
     (λ v a b p q. same_Some b a (sym q ∙ same.numbers v a p))
     (same.numbers sub.region.start sub.search.start kept.marks.here) kept
 

@@ -3,7 +3,7 @@ use Rattle.std.specs.Prelude.{◌≡◌, ℕ, List, IsSome}
 use Rattle.std.specs.List.{AllByRecursion}
 use Rattle.ifmap_ident.specs.Items.{IsCanonItem}
 use Rattle.ifmap_delta.specs.Changes.{ShowsAfter, WouldKeep}
-use Rattle.ifmap_delta.specs.Sights.{ViewSeen}
+use Rattle.ifmap_delta.specs.SeenViews.{ViewSeen}
 use Rattle.ifmap_delta.specs.declared.subscriptions.Moved.{Moved}
 use Rattle.ifmap_delta.specs.declared.subscriptions.Subscription.{Subscription}
 use Rattle.ifmap_graph.specs.declared.changes.Ready.{Ready}
@@ -20,18 +20,18 @@ use Rattle.ifmap_view.specs.Views.{IsView}
 use Rattle.ifmap_view.specs.declared.attachments.Attachment.{Attachment}
 
 -- what a graph shows, and what it is to show
-abbrev pub sight_now : GraphInside → ViewSeen
-sight_now h = record { rows = rows_now h; id_at = key_at h.names; links = links_now h }
+abbrev pub seen_now : GraphInside → ViewSeen
+seen_now h = record { rows = rows_now h; id_at = key_at h.names; links = links_now h }
 
-abbrev pub sight_next : GraphInside → ViewSeen
-sight_next h = record { rows = rows_next h; id_at = key_at h.names; links = links_next h }
+abbrev pub seen_next : GraphInside → ViewSeen
+seen_next h = record { rows = rows_next h; id_at = key_at h.names; links = links_next h }
 
 abbrev pub IsWorldSeen : ViewSeen → Type 0
 IsWorldSeen g = IsView g.rows g.id_at g.links
 
 -- what it is to show is what it shows after a plan
 abbrev pub AreShown : GraphInside → Plan → Type 0
-AreShown h plan = ShowsAfter (sight_now h) (sight_next h) plan.changes
+AreShown h plan = ShowsAfter (seen_now h) (seen_next h) plan.changes
 
 -- the items of notes are those that elements mean
 abbrev pub HaveFitNotes : Plan → Type 0
@@ -52,8 +52,8 @@ pub record IsFitting (h : GraphInside) (plan : Plan) : Type 0 where
 -- a change is out
 pub record IsUnderWay (h : GraphInside) (ready : Ready) : Type 0 where
   pub out : IsOut ready h
-  pub now : IsWorldSeen (sight_now h)
-  pub next : IsWorldSeen (sight_next h)
+  pub now : IsWorldSeen (seen_now h)
+  pub next : IsWorldSeen (seen_next h)
   pub change : AreShown h ready.plan
   pub notes : HaveFitNotes ready.plan
   pub whole : AreWhole (rows_next h)
@@ -68,7 +68,7 @@ pub record ShowsSame (old new : GraphInside) : Type 0 where
 -- a change is out, and a subscription has room for what it does
 pub record IsStepOut (h : GraphInside) (sub : Subscription) (ready : Ready) (moved : Moved) : Type 0 where
   pub way : IsUnderWay h ready
-  pub keeps : WouldKeep (sight_next h) sub moved.patch moved.new_size
+  pub keeps : WouldKeep (seen_next h) sub moved.patch moved.new_size
   pub room : HasRoom moved.patch sub.region.marks.entries
 
 -- each number that had a row has one still

@@ -2,8 +2,8 @@
 //! told by last digits of addresses.
 ghost use Rattle.std.specs.Prelude.{IfOk};
 ghost use Rattle.std.specs.List.{AllByRecursion};
-ghost use Rattle.ifmap_delta.specs.Sights.{HasMarks, IsUpToDate};
-ghost use Rattle.ifmap_delta_tests.specs.Worlds.{IsQuiet, IsWorldSeen, IsStepOut, sight_next, sight_now};
+ghost use Rattle.ifmap_delta.specs.SeenViews.{HasMarks, IsUpToDate};
+ghost use Rattle.ifmap_delta_tests.specs.Worlds.{IsQuiet, IsWorldSeen, IsStepOut, seen_next, seen_now};
 ghost use Rattle.ifmap_ident.specs.Items.{IsCanonItem};
 
 use crate::faults::{Fault, fault_unless};
@@ -85,8 +85,8 @@ fn check_notes(
     plan: &Plan,
     wanted: &str,
 ) -> Result<(), Fault>
-    requires next { IsWorldSeen (sight_next graph.now) }
-    requires marks { HasMarks (sight_next graph.now) subscription.now }
+    requires next { IsWorldSeen (seen_next graph.now) }
+    requires marks { HasMarks (seen_next graph.now) subscription.now }
     requires canon { AllByRecursion (λ n. IsCanonItem n.item) plan.now.notes }
 {
     let notified = notes_of(alloc, graph, subscription, plan)?;
@@ -117,7 +117,7 @@ fn check_second(
     example: &Example,
 ) -> Result<(), Fault>
     requires quiet { IsQuiet graph.old }
-    requires kept { IsUpToDate (sight_now graph.old) subscription.old }
+    requires kept { IsUpToDate (seen_now graph.old) subscription.old }
 {
     let step = step_by(alloc, graph, subscription, example.client, example.second)?;
     check_step(alloc, graph, subscription, step, example)
@@ -126,7 +126,7 @@ fn check_second(
 // A graph with a subscription, which finds what the example says.
 fn world_of(alloc: Global, example: &Example) -> Result<World, Fault>
     ensures quiet { IfOk result (λ world. IsQuiet world.graph) }
-    ensures kept { IfOk result (λ world. IsUpToDate (sight_now world.graph) world.subscription) }
+    ensures kept { IfOk result (λ world. IsUpToDate (seen_now world.graph) world.subscription) }
 {
     let search = search_of(alloc, &example.sought)?;
     let (world, found) = begin_world(alloc, search, example.first)?;

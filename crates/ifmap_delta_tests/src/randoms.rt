@@ -1,7 +1,7 @@
 //! Small graphs with random publishes: what each change tells, and its ways back.
 ghost use Rattle.std.specs.Prelude.{◌≡◌, IfOk, OnOk};
-ghost use Rattle.ifmap_delta.specs.Sights.{IsUpToDate};
-ghost use Rattle.ifmap_delta_tests.specs.Worlds.{IsQuiet, IsStepOut, KeepsRows, sight_now};
+ghost use Rattle.ifmap_delta.specs.SeenViews.{IsUpToDate};
+ghost use Rattle.ifmap_delta_tests.specs.Worlds.{IsQuiet, IsStepOut, KeepsRows, seen_now};
 ghost use Rattle.ifmap_region.specs.Ways.{HasRoom};
 
 use crate::comparing::{Snapshot, has_bare_row, is_as_in, take_snapshot};
@@ -25,7 +25,7 @@ fn roll_step(
     count: u64,
 ) -> Result<Step, Fault>
     requires quiet { IsQuiet graph.old }
-    requires kept { IsUpToDate (sight_now graph.old) subscription.old }
+    requires kept { IsUpToDate (seen_now graph.old) subscription.old }
     ensures out { IfOk result (λ step. IsStepOut graph.new subscription.new step.ready
         step.moved) }
     ensures others { OnOk result (KeepsRows subscription.old subscription.new) }
@@ -184,7 +184,7 @@ fn end_walk(
     was: &Snapshot,
 ) -> Result<(), Fault>
     requires quiet { IsQuiet graph.old }
-    requires kept { IsUpToDate (sight_now graph.old) subscription.old }
+    requires kept { IsUpToDate (seen_now graph.old) subscription.old }
     requires room { HasRoom undo.0 subscription.old.region.marks.entries }
 {
     let now = take_snapshot(alloc, subscription)?;
@@ -205,9 +205,9 @@ fn make_first(
     count: &mut u64,
 ) -> Result<SubUndo, Fault>
     requires quiet { IsQuiet graph.old }
-    requires kept { IsUpToDate (sight_now graph.old) subscription.old }
+    requires kept { IsUpToDate (seen_now graph.old) subscription.old }
     ensures quiet { OnOk result (IsQuiet graph.new) }
-    ensures kept { OnOk result (IsUpToDate (sight_now graph.new) subscription.new) }
+    ensures kept { OnOk result (IsUpToDate (seen_now graph.new) subscription.new) }
     ensures room { IfOk result (λ undo. HasRoom undo.0 subscription.new.region.marks.entries) }
 {
     let step = roll_step(alloc, dice, graph, subscription, "c1", 3)?;
@@ -230,7 +230,7 @@ fn change_twice(
     count: &mut u64,
 ) -> Result<(), Fault>
     requires quiet { IsQuiet graph.old }
-    requires kept { IsUpToDate (sight_now graph.old) subscription.old }
+    requires kept { IsUpToDate (seen_now graph.old) subscription.old }
 {
     let was = take_snapshot(alloc, subscription)?;
     let undo = make_first(alloc, dice, graph, subscription, count)?;
@@ -241,7 +241,7 @@ fn change_twice(
 // A graph with a subscription to what it shows.
 fn roll_world(alloc: Global, dice: &mut Dice) -> Result<World, Fault>
     ensures quiet { IfOk result (λ world. IsQuiet world.graph) }
-    ensures kept { IfOk result (λ world. IsUpToDate (sight_now world.graph) world.subscription) }
+    ensures kept { IfOk result (λ world. IsUpToDate (seen_now world.graph) world.subscription) }
 {
     let ops = roll_ops(alloc, dice, (14, 6))?;
     let search = search_of(alloc, &roll_sought(dice))?;

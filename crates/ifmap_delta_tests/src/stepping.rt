@@ -2,9 +2,9 @@
 ghost use Rattle.std.specs.Prelude.{◌≡◌, ◌<◌, Some, IfOk, OnOk};
 ghost use Rattle.std.specs.List.{AllByRecursion};
 ghost use Rattle.ifmap_delta.specs.Changes.{IsSubscribed, ShowsAfter, WouldKeep};
-ghost use Rattle.ifmap_delta.specs.Sights.{HasMarks, IsUpToDate, ViewSeen};
+ghost use Rattle.ifmap_delta.specs.SeenViews.{HasMarks, IsUpToDate, ViewSeen};
 ghost use Rattle.ifmap_delta_tests.specs.Worlds.{IsFitting, IsQuiet, IsWorldSeen, IsStepOut, KeepsRows};
-ghost use Rattle.ifmap_delta_tests.specs.Worlds.{sight_next, sight_now};
+ghost use Rattle.ifmap_delta_tests.specs.Worlds.{seen_next, seen_now};
 ghost use Rattle.ifmap_ident.specs.Canon.{IsIdentifier};
 ghost use Rattle.ifmap_ident.specs.Items.{IsCanonItem};
 ghost use Rattle.ifmap_graph.specs.ifmap_pool.Holdings.{key_at};
@@ -67,7 +67,7 @@ fn subscribe_with<L: Ledger>(
     requires name { blank.name ≡ L.name }
     requires parts { blank.parts ≡ L.parts }
     requires some { 0 < blank.parts }
-    ensures { IfOk result (IsSubscribed (sight_now graph.now) search number) }
+    ensures { IfOk result (IsSubscribed (seen_now graph.now) search number) }
 {
     let mut steps: Steps<L> = Steps::from_blank(blank);
     subscribe(alloc, graph, number, search, &mut steps)
@@ -82,7 +82,7 @@ fn subscribe_to(
 ) -> Result<(Subscription, Found), Fault>
     requires start { IsIdentifier search.start }
     requires number { key_at graph.now.names number ≡ Some search.start }
-    ensures { IfOk result (λ made. IsUpToDate (sight_now graph.now) made.0) }
+    ensures { IfOk result (λ made. IsUpToDate (seen_now graph.now) made.0) }
 {
     match subscribe_with::<Brand>(alloc, graph, number, search, Blank::new(1))? {
         Subscribed::Kept {
@@ -108,7 +108,7 @@ pub(crate) fn begin_world(
 ) -> Result<(World, Found), Fault>
     requires { IsIdentifier search.start }
     ensures quiet { IfOk result (λ made. IsQuiet made.0.graph) }
-    ensures kept { IfOk result (λ made. IsUpToDate (sight_now made.0.graph) made.0.subscription) }
+    ensures kept { IfOk result (λ made. IsUpToDate (seen_now made.0.graph) made.0.subscription) }
 {
     let (graph, number) = graph_with(alloc, &search.start, ops)?;
     let (subscription, found) = subscribe_to(alloc, &graph, number, search)?;
@@ -128,14 +128,14 @@ fn change_with<L: Ledger>(
     plan: &Plan,
     blank: Blank,
 ) -> Result<Moved, NoMemory>
-    requires now { IsWorldSeen (sight_now graph.now) }
-    requires next { IsWorldSeen (sight_next graph.now) }
-    requires kept { IsUpToDate (sight_now graph.now) subscription.now }
-    requires change { ShowsAfter (sight_now graph.now) (sight_next graph.now) plan.now.changes }
+    requires now { IsWorldSeen (seen_now graph.now) }
+    requires next { IsWorldSeen (seen_next graph.now) }
+    requires kept { IsUpToDate (seen_now graph.now) subscription.now }
+    requires change { ShowsAfter (seen_now graph.now) (seen_next graph.now) plan.now.changes }
     requires name { blank.name ≡ L.name }
     requires parts { blank.parts ≡ L.parts }
     requires some { 0 < blank.parts }
-    ensures { IfOk result (λ moved. WouldKeep (sight_next graph.now) subscription.now moved.patch
+    ensures { IfOk result (λ moved. WouldKeep (seen_next graph.now) subscription.now moved.patch
         moved.new_size) }
 {
     let mut steps: Steps<L> = Steps::from_blank(blank);
@@ -177,11 +177,11 @@ fn change_of(
     graph: &Graph,
     plan: &Plan,
 ) -> Result<Moved, Fault>
-    requires now { IsWorldSeen (sight_now graph.now) }
-    requires next { IsWorldSeen (sight_next graph.now) }
-    requires kept { IsUpToDate (sight_now graph.now) subscription.now }
-    requires change { ShowsAfter (sight_now graph.now) (sight_next graph.now) plan.now.changes }
-    ensures { IfOk result (λ moved. WouldKeep (sight_next graph.now) subscription.now moved.patch
+    requires now { IsWorldSeen (seen_now graph.now) }
+    requires next { IsWorldSeen (seen_next graph.now) }
+    requires kept { IsUpToDate (seen_now graph.now) subscription.now }
+    requires change { ShowsAfter (seen_now graph.now) (seen_next graph.now) plan.now.changes }
+    ensures { IfOk result (λ moved. WouldKeep (seen_next graph.now) subscription.now moved.patch
         moved.new_size) }
 {
     let moved = change_with::<Brand>(alloc, subscription, graph, plan, Blank::new(1))?;
@@ -214,11 +214,11 @@ fn prepare_change(
     subscription: &mut Subscription,
     plan: &Plan,
 ) -> Result<Moved, Fault>
-    requires now { IsWorldSeen (sight_now graph.now) }
-    requires next { IsWorldSeen (sight_next graph.now) }
-    requires kept { IsUpToDate (sight_now graph.now) subscription.old }
-    requires change { ShowsAfter (sight_now graph.now) (sight_next graph.now) plan.now.changes }
-    ensures keeps { IfOk result (λ moved. WouldKeep (sight_next graph.now) subscription.new
+    requires now { IsWorldSeen (seen_now graph.now) }
+    requires next { IsWorldSeen (seen_next graph.now) }
+    requires kept { IsUpToDate (seen_now graph.now) subscription.old }
+    requires change { ShowsAfter (seen_now graph.now) (seen_next graph.now) plan.now.changes }
+    ensures keeps { IfOk result (λ moved. WouldKeep (seen_next graph.now) subscription.new
         moved.patch moved.new_size) }
     ensures room { IfOk result (λ moved. HasRoom moved.patch
         subscription.new.region.marks.entries) }
@@ -238,7 +238,7 @@ fn begin_step(
 ) -> Result<Step, Fault>
     requires quiet { IsQuiet graph.old }
     requires fitting { IsFitting graph.old plan }
-    requires kept { IsUpToDate (sight_now graph.old) subscription.old }
+    requires kept { IsUpToDate (seen_now graph.old) subscription.old }
     ensures out { IfOk result (λ step. IsStepOut graph.new subscription.new step.ready
         step.moved) }
     ensures others { OnOk result (KeepsRows subscription.old subscription.new) }
@@ -259,7 +259,7 @@ pub(crate) fn step_by(
     ops: &[Op],
 ) -> Result<Step, Fault>
     requires quiet { IsQuiet graph.old }
-    requires kept { IsUpToDate (sight_now graph.old) subscription.old }
+    requires kept { IsUpToDate (seen_now graph.old) subscription.old }
     ensures out { IfOk result (λ step. IsStepOut graph.new subscription.new step.ready
         step.moved) }
     ensures others { OnOk result (KeepsRows subscription.old subscription.new) }
@@ -283,7 +283,7 @@ pub(crate) fn take_over(subscription: &mut Subscription, moved: Moved) -> SubUnd
 pub(crate) fn make_step(graph: &mut Graph, subscription: &mut Subscription, step: Step) -> SubUndo
     requires { IsStepOut graph.old subscription.old step.ready step.moved }
     ensures quiet { IsQuiet graph.new }
-    ensures kept { IsUpToDate (sight_now graph.new) subscription.new }
+    ensures kept { IsUpToDate (seen_now graph.new) subscription.new }
     ensures room { HasRoom result.0 subscription.new.region.marks.entries }
     ensures others { KeepsRows subscription.old subscription.new }
 {
@@ -300,8 +300,8 @@ pub(crate) fn notes_of(
     subscription: &Subscription,
     plan: &Plan,
 ) -> Result<Many<Entry>, NoMemory>
-    requires next { IsWorldSeen (sight_next graph.now) }
-    requires marks { HasMarks (sight_next graph.now) subscription.now }
+    requires next { IsWorldSeen (seen_next graph.now) }
+    requires marks { HasMarks (seen_next graph.now) subscription.now }
     requires canon { AllByRecursion (λ n. IsCanonItem n.item) plan.now.notes }
 {
     let draft = Draft::of(graph);
@@ -315,7 +315,7 @@ fn subscribe_anew(
     graph: &Graph,
     subscription: &Subscription,
 ) -> Result<Subscription, Fault>
-    requires { IsUpToDate (sight_now graph.now) subscription.now }
+    requires { IsUpToDate (seen_now graph.now) subscription.now }
 {
     let search = subscription.search.copy(alloc)?;
     let (other, _found) = subscribe_to(alloc, graph, subscription.region.start, search)?;
@@ -328,7 +328,7 @@ pub(crate) fn check_kept(
     graph: &Graph,
     subscription: &Subscription,
 ) -> Result<(), Fault>
-    requires { IsUpToDate (sight_now graph.now) subscription.now }
+    requires { IsUpToDate (seen_now graph.now) subscription.now }
 {
     let other = subscribe_anew(alloc, graph, subscription)?;
     let wanted = take_snapshot(alloc, &other)?;

@@ -43,5 +43,5 @@ passes_where state event h =
     let own : is_same_text n.0.client event.client ≡ true = text_same n.0.client event.client n.2 in
     rw (h.1, h.2, h.3, n.1, own, n.3) refl
 
-pub holding : (state : State) (event : Event) → would_hold state event ≡ true ↔ WouldHold state event
-holding state event = (holds_where state event event.ask refl, passes_where state event)
+pub tells_would_hold : (state : State) (event : Event) → would_hold state event ≡ true ↔ WouldHold state event
+tells_would_hold state event = (holds_where state event event.ask refl, passes_where state event)

@@ -68,9 +68,9 @@ module _ (items : List Item) (first : Shelves) where
     pub waits : (x : Item) → waits_on shelves x ≡ waits_on first x
     pub places : shelves.places ≡ first.places
 
-  pub accepting : (lists : List (List Stored)) → AreShelved first → AllByRecursion (HasDraft first) items → DraftsWithin items first
+  pub begins_accepting : (lists : List (List Stored)) → AreShelved first → AllByRecursion (HasDraft first) items → DraftsWithin items first
       → IsDistinct same_item items → length lists ≡ length items → Accepting lists first 0
-  accepting lists shelved drafted within apart long = record {
+  begins_accepting lists shelved drafted within apart long = record {
     shelved = shelved;
     same = refl;
     drafted = drafted;
@@ -161,9 +161,9 @@ module _ (items : List Item) (first : Shelves) where
     pub waits : (x : Item) → waits_on shelves x ≡ waits_on first x
     pub places : shelves.places ≡ first.places
 
-  pub discarding : AreShelved first → AllByRecursion (λ x. IsSome (slot_of_item first x)) items → DraftsWithin items first → Discarding
-      first 0
-  discarding shelved there within = record {
+  pub begins_discarding : AreShelved first → AllByRecursion (λ x. IsSome (slot_of_item first x)) items → DraftsWithin items first
+      → Discarding first 0
+  begins_discarding shelved there within = record {
     shelved = shelved;
     same = refl;
     there = there;

@@ -101,8 +101,8 @@ module _ (items : List Item) (first : GraphFields) where
     pub brought : BringsShelves (flagged_items items marks) first.shelves p.shelves
     pub there : AllByRecursion (λ x. IsSome (slot_of_item p.shelves x)) (take i items)
 
-  pub placing : AreInside first → (marks : List Bool) → marks ≡ [] → Placing first marks 0
-  placing is marks e = record {
+  pub begins_placing : AreInside first → (marks : List Bool) → marks ≡ [] → Placing first marks 0
+  begins_placing is marks e = record {
     grown = grown_itself first is;
     long = ap length e;
     brought = subst (λ l. BringsShelves (flagged_items items l) first.shelves first.shelves) (sym e)

@@ -52,8 +52,8 @@ module _ (items : List Item) (marks : List Bool) (names : Holdings Identifier) (
     pub brought : (origin : Shelves) → BringsShelves (flagged_items items marks) origin first
         → BringsShelves (flagged_items (drop i items) (drop i marks)) origin s
 
-  pub taking : IsDistinct same_item items → Taking names first 0
-  taking apart = record { less = less_itself names first; apart = apart; brought = λ origin b. b }
+  pub begins_taking : IsDistinct same_item items → Taking names first 0
+  begins_taking apart = record { less = less_itself names first; apart = apart; brought = λ origin b. b }
 
   module _ (left : Holdings Identifier) (s : Shelves) (i : ℕ) (x : Item) (came : Bool) (here : drop i items ≡ x ∷ drop (i + 1) items)
       (mark : drop i marks ≡ came ∷ drop (i + 1) marks) (g : Taking left s i) where

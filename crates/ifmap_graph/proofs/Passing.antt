@@ -14,8 +14,8 @@ module _ {X : Type 0} (list_of : X → List Stored) where
     pub rest_has : (P : Item × X → Type 0) → AllByRecursion P rest → AllByRecursion P next
     rest_has P a = (let b : AllByRecursion P (e ∷ next) = subst (λ l. AllByRecursion P l) step a in b.1)
 
-    pub passing : IsPassing list_of es rest → list_of e.1 ≡ [] → IsPassing list_of es next
-    passing p empty = record {
+    pub passes_one : IsPassing list_of es rest → list_of e.1 ≡ [] → IsPassing list_of es next
+    passes_one p empty = record {
       before = p.before ++ e ∷ [];
       split = p.split ∙ ap (λ l. p.before ++ l) step ∙ sym (append_assoc p.before (e ∷ []) next);
       empty = empty_push p.before e p.empty empty;

@@ -100,8 +100,8 @@ module _ (changes : List ItemChange) (first : Shelves) where
   all_same [] f = tt
   all_same (x ∷ xs) f = (f x, all_same xs f)
 
-  pub drafting : AreShelved first → AreBare first → Fits (rows_on_side list_now first) changes → Drafting first 0
-  drafting shelved bare fits = record {
+  pub begins_drafting : AreShelved first → AreBare first → Fits (rows_on_side list_now first) changes → Drafting first 0
+  begins_drafting shelved bare fits = record {
     shelved = shelved;
     same = refl;
     drafted = tt;

@@ -131,9 +131,9 @@ pub record Dropping (first : List (Sides LinkSeen)) (ways : List (ℕ × List Li
   pub kept : KeepsLinks first links
   pub left : (v : ℕ) → ((sides_at links v).draft ≡ None) ⊎ IsNamed (drop i ways) v
 
-pub dropping : (first : List (Sides LinkSeen)) (ways : List (ℕ × List LinkSeen)) → AreExactlyDrafted ways first → Dropping first ways first
-    0
-dropping first ways r = record { kept = record { now = λ v. refl; long = refl }; left = r.no_others }
+pub begins_dropping : (first : List (Sides LinkSeen)) (ways : List (ℕ × List LinkSeen)) → AreExactlyDrafted ways first
+    → Dropping first ways first 0
+begins_dropping first ways r = record { kept = record { now = λ v. refl; long = refl }; left = r.no_others }
 
 named_here : (ways : List (ℕ × List LinkSeen)) (i : ℕ) (w : ℕ × List LinkSeen) → i < length ways → IsNamed ways (get_or ways i w).0
 named_here [] i w h = absurd (omega (arith, h))

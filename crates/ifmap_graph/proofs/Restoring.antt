@@ -38,9 +38,10 @@ module _ (items : List Item) (given : List (List Stored)) (first : Shelves) wher
     pub waits : (x : Item) → waits_on shelves x ≡ waits_on first x
     pub places : shelves.places ≡ first.places
 
-  pub restoring : AreShelved first → AreBare first → AllByRecursion (λ x. IsSome (slot_of_item first x)) items → length given ≡ length items
+  pub begins_restoring : AreShelved first → AreBare first → AllByRecursion (λ x. IsSome (slot_of_item first x)) items
+      → length given ≡ length items
       → Restoring given first 0
-  restoring shelved bare there long = record {
+  begins_restoring shelved bare there long = record {
     shelved = shelved;
     bare = bare;
     there = there;

@@ -11,8 +11,8 @@ module _ {T : Type 0} (all : List (ℕ × List T)) (first : List (Sides T)) wher
     pub same : restore_each (drop i ways) lists ≡ restore_each all first
     pub long : length ways ≡ length all
 
-  pub returning : AreWithin all (length first) → Returning all first 0
-  returning w = record { within = w; same = refl; long = refl }
+  pub begins_returning : AreWithin all (length first) → Returning all first 0
+  begins_returning w = record { within = w; same = refl; long = refl }
 
   module _ (ways : List (ℕ × List T)) (lists : List (Sides T)) (i : ℕ) (h : i < length ways) (g : Returning ways lists i)
       (w : ℕ × List T) where

@@ -117,9 +117,9 @@ module _ (slots : Slab Shelf) where
     pub kept : KeepsLinks first links
     pub drafts : (v : ℕ) → (sides_at links v).draft ≡ draft_of slots (take i touched) v (sides_at first v).now
 
-  pub touching : (first : List (Sides LinkSeen)) (touched : List ℕ) (ways : List (ℕ × List LinkSeen)) → AreExactlyDrafted ways first
+  pub begins_touching : (first : List (Sides LinkSeen)) (touched : List ℕ) (ways : List (ℕ × List LinkSeen)) → AreExactlyDrafted ways first
       → ((v : ℕ) → (sides_at first v).draft ≡ None) → Touching first touched ways first 0
-  touching first touched ways r bare = record { ready = r; kept = record { now = λ v. refl; long = refl }; drafts = λ v. bare v }
+  begins_touching first touched ways r bare = record { ready = r; kept = record { now = λ v. refl; long = refl }; drafts = λ v. bare v }
 
   pub touches_on : (first links later : List (Sides LinkSeen)) (touched : List ℕ) (ways others : List (ℕ × List LinkSeen)) (i : ℕ)
       → i < length touched

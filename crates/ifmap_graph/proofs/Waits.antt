@@ -34,10 +34,10 @@ module _ (items : List Item) (first : Shelves) where
     pub ends : (at : ℕ) → ends_at s at ≡ ends_at first at
     pub places : s.places ≡ first.places
 
-  pub waiting : AreShelved first → AllByRecursion (λ x. IsSome (slot_of_item first x)) items → AllByRecursion (Few first) items
+  pub begins_waiting : AreShelved first → AllByRecursion (λ x. IsSome (slot_of_item first x)) items → AllByRecursion (Few first) items
       → IsDistinct same_item items
       → Waiting first 0
-  waiting shelved there few apart = record {
+  begins_waiting shelved there few apart = record {
     shelved = shelved;
     same = refl;
     other = refl;

@@ -7,8 +7,8 @@ use Rattle.std.proofs.lemmas.List.{get_or-map, length-map}
 use Rattle.std.proofs.lemmas.Option.{slice_get-get_or, same_Some, none-some}
 use Rattle.std.specs.List.{Contains}
 use Rattle.ifmap_delta.specs.declared.subscriptions.Subscription.{Subscription}
-use Rattle.ifmap_delta.specs.Sights.{AreMarks, IsUpToDate, Links, ViewSeen, is_terminal_in}
-use Rattle.ifmap_delta.specs.Ways.{HasSameSearch}
+use Rattle.ifmap_delta.specs.SeenViews.{AreMarks, IsUpToDate, Links, ViewSeen, is_terminal_in}
+use Rattle.ifmap_delta.specs.SameSearches.{HasSameSearch}
 use Rattle.ifmap_delta.specs.ifmap_fresh.Fresh.{fresh_size}
 use Rattle.ifmap_delta.specs.ifmap_fresh.Linking.{end_where, is_terminal_at}
 use Rattle.ifmap_delta.specs.ifmap_fresh.Matching.{one_meets}

@@ -16,8 +16,8 @@ use Rattle.std.proofs.lemmas.Option.{slice_get_past, slice_get_within, slice_get
 use Rattle.std.proofs.lemmas.Slice.Zip.{length-zip}
 use Rattle.ifmap_delta.specs.declared.subscriptions.Subscription.{Subscription}
 use Rattle.ifmap_delta.specs.Bounds.{IsNear, one_and_links}
-use Rattle.ifmap_delta.specs.Sights.{IsUpToDate, ViewSeen}
-use Rattle.ifmap_delta.specs.Ways.{HasSameSearch}
+use Rattle.ifmap_delta.specs.SeenViews.{IsUpToDate, ViewSeen}
+use Rattle.ifmap_delta.specs.SameSearches.{HasSameSearch}
 use Rattle.ifmap_lemmas.specs.Fronts.{before_last}
 use Rattle.ifmap_lemmas.specs.Mapped.{mapped_there, zip_more}
 use Rattle.ifmap_lemmas.specs.Places.{last_there, written_elsewhere, written_there}

@@ -5,8 +5,8 @@ use Rattle.std.specs.Prelude.{is_some, unwrap_or}
 use Rattle.std.proofs.lemmas.Bool.{false≢true}
 use Rattle.ifmap_delta.specs.Changes.{WouldKeep}
 use Rattle.ifmap_delta.specs.declared.subscriptions.Subscription.{Subscription}
-use Rattle.ifmap_delta.specs.Sights.{AreMarks, Links, ViewSeen, is_terminal_in}
-use Rattle.ifmap_delta.specs.Ways.{HasSameSearch}
+use Rattle.ifmap_delta.specs.SeenViews.{AreMarks, Links, ViewSeen, is_terminal_in}
+use Rattle.ifmap_delta.specs.SameSearches.{HasSameSearch}
 use Rattle.ifmap_delta.specs.ifmap_fresh.Fresh.{fresh_size}
 use Rattle.ifmap_delta.specs.ifmap_region.Marks.{mark_of, mark_over, row_of}
 use Rattle.ifmap_delta.specs.ifmap_region.Ways.{HasRoom, Makes, OnlyRoom, taken_from}

@@ -12,9 +12,10 @@ use Rattle.ifmap_standing.specs.PlaceLaws.{at_each_joined}
 abbrev pub IsUndone : Option (Option Way) → Subscription → Subscription → Type 0
 IsUndone way now new = (before : Subscription) → LeadsBackWhere way before now → KeepsSame before new
 
-pub undone : (ways : List (Option Way)) (now new before : List Standing) → AtEach (λ i. StaysRelated (IsUndone (slice_get ways i))) now new
+pub leads_all_back : (ways : List (Option Way)) (now new before : List Standing)
+    → AtEach (λ i. StaysRelated (IsUndone (slice_get ways i))) now new
     → LeadBack before ways now → AtEach (λ _. StaysRelated KeepsSame) before new
-undone ways now new before u l =
+leads_all_back ways now new before u l =
     at_each_joined (λ i. StaysRelated (LeadsBackWhere (slice_get ways i))) (λ i. StaysRelated (IsUndone (slice_get ways i)))
     (λ _. StaysRelated KeepsSame)
     (λ i x y z r s. stand_joined (LeadsBackWhere (slice_get ways i)) (IsUndone (slice_get ways i)) KeepsSame (λ a b c h k. k a h)

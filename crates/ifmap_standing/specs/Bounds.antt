@@ -1,7 +1,7 @@
 -- How many steps it takes to tell a change: the sum of what each that is not skipped may take.
 use Rattle.std.specs.Prelude.{◌≤◌, ℕ, Bool, true, false, List, [], ◌∷◌}
 use Rattle.ifmap_delta.specs.Bounds.{IsWithinBound}
-use Rattle.ifmap_delta.specs.Sights.{ViewSeen}
+use Rattle.ifmap_delta.specs.SeenViews.{ViewSeen}
 use Rattle.ifmap_standing.specs.declared.standing.Standing.{Standing}
 
 module _ (old new : ViewSeen) where

@@ -1,10 +1,10 @@
 -- What subscriptions keep from one state of a list of them to another.
 use Rattle.std.specs.Prelude.{◌≡◌, ℕ, List, length, Some, IsSome, slice_get}
 use Rattle.ifmap_delta.specs.declared.subscriptions.Subscription.{Subscription}
-use Rattle.ifmap_delta.specs.Ways.{HasSameSearch}
+use Rattle.ifmap_delta.specs.SameSearches.{HasSameSearch}
 use Rattle.ifmap_delta.specs.ifmap_region.Marks.{mark_of, row_of}
 use Rattle.ifmap_standing.specs.declared.standing.Standing.{Standing}
-use Rattle.ifmap_delta.specs.Sights.{IsUpToDate, ViewSeen}
+use Rattle.ifmap_delta.specs.SeenViews.{IsUpToDate, ViewSeen}
 
 -- a relation holds at each place of two lists of one length
 pub record AtEach {X : Type 0} (R : ℕ → X → X → Type 0) (old new : List X) : Type 0 where

@@ -2,7 +2,7 @@
 use Rattle.ifmap_delta.specs.declared.locating.LocatedPlan.{LocatedPlan}
 use Rattle.ifmap_delta.specs.Changes.{ShowsAfter}
 use Rattle.ifmap_delta.specs.Located.{IsLocatedPlan}
-use Rattle.ifmap_delta.specs.Sights.{ViewSeen}
+use Rattle.ifmap_delta.specs.SeenViews.{ViewSeen}
 use Rattle.ifmap_view.specs.Views.{IsView}
 
 -- the plan's items are located in two views

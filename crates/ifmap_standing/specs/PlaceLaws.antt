@@ -4,7 +4,7 @@ use Rattle.ifmap_lemmas.specs.Places.{something_at}
 use Rattle.ifmap_standing.specs.Kept.{AtEach, KeepsSame, StaysRelated}
 use Rattle.std.proofs.lemmas.Option.{same_Some}
 use Rattle.ifmap_delta.specs.declared.subscriptions.Subscription.{Subscription}
-use Rattle.ifmap_delta.specs.Ways.{HasSameSearch}
+use Rattle.ifmap_delta.specs.SameSearches.{HasSameSearch}
 use Rattle.ifmap_standing.specs.declared.standing.Standing.{Standing}
 use Rattle.ifmap_standing.specs.Ways.{LeadsBackWhere, Way}
 

@@ -1,7 +1,7 @@
 -- Ways back: what subscriptions kept before they took over a change.
 use Rattle.std.specs.Prelude.{◌≡◌, ◌≤◌, ℕ, List, Option, Some, None, IsSome, length, slice_get}
 use Rattle.ifmap_delta.specs.declared.subscriptions.Subscription.{Subscription}
-use Rattle.ifmap_delta.specs.Ways.{HasSameSearch}
+use Rattle.ifmap_delta.specs.SameSearches.{HasSameSearch}
 use Rattle.ifmap_delta.specs.ifmap_region.Marks.{mark_of, row_of}
 use Rattle.ifmap_delta.specs.ifmap_region.Ways.{HasRoom, IsWayBack, Sweeps}
 use Rattle.ifmap_standing.specs.Kept.{AtEach, KeepsSame, StaysRelated}

@@ -1,6 +1,6 @@
 //! Laws on what subscriptions keep: functions that do nothing, whose contracts are the laws.
 ghost use Rattle.std.specs.Prelude.{◌≡◌, ℕ, Some, List, Option};
-ghost use Rattle.ifmap_delta.specs.Sights.{IsUpToDate, ViewSeen};
+ghost use Rattle.ifmap_delta.specs.SeenViews.{IsUpToDate, ViewSeen};
 ghost use Rattle.ifmap_delta.specs.declared.subscriptions.Subscription.{Subscription};
 ghost use Rattle.ifmap_ident.specs.declared.identifiers.Identifier.{Identifier};
 ghost use Rattle.ifmap_standing.specs.Kept.{AtEach, KeepsSame, StaysRelated};

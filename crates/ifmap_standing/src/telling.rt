@@ -1,7 +1,7 @@
 //! What one subscription is told of a change.
 ghost use Rattle.std.specs.Prelude.{◌≡◌, ◌++◌, ◌∷◌, [], Some, true, IfOk, OnOk};
 ghost use Rattle.std.specs.List.{AllByRecursion};
-ghost use Rattle.ifmap_delta.specs.Sights.{IsUpToDate, view_seen};
+ghost use Rattle.ifmap_delta.specs.SeenViews.{IsUpToDate, view_seen};
 ghost use Rattle.ifmap_delta.specs.ifmap_fresh.Fresh.{fresh};
 ghost use Rattle.ifmap_delta.specs.ifmap_folds.Differences.{difference};
 ghost use Rattle.ifmap_ident.specs.Items.{IsCanonItem};

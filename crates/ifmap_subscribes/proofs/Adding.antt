@@ -4,9 +4,9 @@ use Rattle.std.specs.Prelude.{nat_le}
 use Rattle.std.proofs.lemmas.Bool.{and_cases, both_ways, cases_Bool, leb-false}
 use Rattle.std.proofs.lemmas.List.Filters.{sum_by-filter_both}
 use Rattle.std.specs.List.{AllByRecursion, list_any}
-use Rattle.ifmap_changes.specs.Between.{IsSteady, sight_now}
+use Rattle.ifmap_changes.specs.Between.{IsSteady, seen_now}
 use Rattle.ifmap_changes.specs.declared.parts.Parts.{Parts}
-use Rattle.ifmap_changes.specs.ifmap_delta.Sights.{IsUpToDate}
+use Rattle.ifmap_changes.specs.ifmap_delta.SeenViews.{IsUpToDate}
 use Rattle.ifmap_lemmas.specs.Mapped.{one_at_most}
 use Rattle.ifmap_lemmas.specs.Members.{both_all}
 use Rattle.ifmap_changes.specs.ifmap_fresh.Fresh.{fresh}
@@ -110,7 +110,7 @@ stand_none serial p made name c =
     record {
       session = both_all (IsOfSession serial) made (end_name name ∷ []) c.session (tt, tt);
       steady = subst (λ xs. IsSteady p.graph (p.standing.items ++ xs)) (sym same) c.steady;
-      kept = subst (λ xs. AllByRecursion (λ (x : Standing). IsUpToDate (sight_now p.graph) x.subscription) xs) (sym same) c.kept;
+      kept = subst (λ xs. AllByRecursion (λ (x : Standing). IsUpToDate (seen_now p.graph) x.subscription) xs) (sym same) c.kept;
     }
 
 pub ending_drops : (serial : ℕ) (name : List ℕ) (u : Told) → drop_name serial name u ≡ rename serial (end_name name) u

@@ -8,9 +8,9 @@ use Rattle.ifmap_lemmas.specs.Mapped.{fewer_joined}
 use Rattle.ifmap_lemmas.specs.Owners.{few_each}
 use Rattle.ifmap_lemmas.specs.Places.{all_got}
 use Rattle.ifmap_changes.specs.ifmap_machine.State as machine
-use Rattle.ifmap_changes.specs.Between.{AreOrdered, Asking, IsSoundSoFar, IsSteady, SharesNumbers, sessions_left, sight_now, starts_of, HasStartNumber, IsSeen}
+use Rattle.ifmap_changes.specs.Between.{AreOrdered, Asking, IsSoundSoFar, IsSteady, SharesNumbers, sessions_left, seen_now, starts_of, HasStartNumber, IsSeen}
 use Rattle.ifmap_changes.specs.declared.parts.Parts.{Parts}
-use Rattle.ifmap_changes.specs.ifmap_delta.Sights.{IsUpToDate, SameLinks}
+use Rattle.ifmap_changes.specs.ifmap_delta.SeenViews.{IsUpToDate, SameLinks}
 use Rattle.ifmap_changes.specs.ifmap_graph.Inside.{GraphInside}
 use Rattle.ifmap_changes.specs.ifmap_graph.Seen.{HasFewOwn, KeepsNumbers, links_now, rows_now}
 use Rattle.ifmap_lemmas.specs.Members.{all_both, both_all, map_of_all}
@@ -71,22 +71,22 @@ numbered_on old new k (x ∷ xs) h =
 
 module _ (law : SameLinks) (old new : GraphInside) (seen_old : IsSeen old) (seen_new : IsSeen new) (rows : rows_now new ≡ rows_now old)
     (links : (v : ℕ) → links_now new v ≡ links_now old v) (numbers : SharesNumbers old new) where
-  kept_one : (x : Standing) → HasStartNumber new x → IsUpToDate (sight_now old) x.subscription → IsUpToDate (sight_now new) x.subscription
-  kept_one x e k = law (sight_now old) (sight_now new) x.subscription seen_old seen_new rows links numbers e k
+  kept_one : (x : Standing) → HasStartNumber new x → IsUpToDate (seen_now old) x.subscription → IsUpToDate (seen_now new) x.subscription
+  kept_one x e k = law (seen_now old) (seen_now new) x.subscription seen_old seen_new rows links numbers e k
 
   pub kept_all : (xs : List Standing) → AllByRecursion (HasStartNumber new) xs → AllByRecursion
-      (λ x. IsUpToDate (sight_now old) x.subscription) xs
-      → AllByRecursion (λ x. IsUpToDate (sight_now new) x.subscription) xs
+      (λ x. IsUpToDate (seen_now old) x.subscription) xs
+      → AllByRecursion (λ x. IsUpToDate (seen_now new) x.subscription) xs
   kept_all [] n h = tt
   kept_all (x ∷ xs) n h = (kept_one x n.0 h.0, kept_all xs n.1 h.1)
 
   pub kept_each : (gone : List Bool) (xs : List Standing) → AllByRecursion (HasStartNumber new) xs
-      → AllKept (λ x. IsUpToDate (sight_now old) x.subscription) gone xs → AllKept (λ x. IsUpToDate (sight_now new) x.subscription) gone xs
+      → AllKept (λ x. IsUpToDate (seen_now old) x.subscription) gone xs → AllKept (λ x. IsUpToDate (seen_now new) x.subscription) gone xs
   kept_each gone xs n k i x at here = kept_one x (all_got (HasStartNumber new) xs i x n at) (k i x at here)
 
 -- parts stay ready
 ready_of : (a : Asking) (old : Parts) (pending : Pending) (g : GraphInside) → IsSoundSoFar a old pending
-    → AllKept (λ x. IsUpToDate (sight_now g) x.subscription) pending.gone.items old.standing.items
+    → AllKept (λ x. IsUpToDate (seen_now g) x.subscription) pending.gone.items old.standing.items
     → IsSoundSoFar a (record old { graph = g }) pending
 ready_of a old pending g r k = record {
   ended = r.ended;
@@ -107,7 +107,7 @@ module _ (law : SameLinks) (serial : ℕ) (old : Parts) (g : GraphInside) (made 
   numbered_all : AllByRecursion (HasStartNumber g) (old.standing.items ++ starts_by made)
   numbered_all = numbered_on old.graph g h.numbers (old.standing.items ++ starts_by made) c.steady.numbered
 
-  kept_begun : AllByRecursion (λ x. IsUpToDate (sight_now g) x.subscription) (starts_by made)
+  kept_begun : AllByRecursion (λ x. IsUpToDate (seen_now g) x.subscription) (starts_by made)
   kept_begun =
       kept_all law old.graph g seen_old seen_new h.rows h.links (shares_kept old.graph g h.numbers) (starts_by made)
       (all_both (HasStartNumber g) old.standing.items (starts_by made) numbered_all).1 c.kept
@@ -116,7 +116,7 @@ module _ (law : SameLinks) (serial : ℕ) (old : Parts) (g : GraphInside) (made 
   stand_still steady = record { session = c.session; steady = steady; kept = kept_begun }
 
   pub stand_more : (r : Renaming) → IsOfSession serial r
-      → AllByRecursion (λ x. IsUpToDate (sight_now g) x.subscription) (option_to_list r.standing)
+      → AllByRecursion (λ x. IsUpToDate (seen_now g) x.subscription) (option_to_list r.standing)
       → IsSteady g ((old.standing.items ++ starts_by made) ++ option_to_list r.standing)
       → CanStand serial (record old { graph = g }) (made ++ r ∷ [])
   stand_more r s k steady =
@@ -125,8 +125,8 @@ module _ (law : SameLinks) (serial : ℕ) (old : Parts) (g : GraphInside) (made 
       record {
         session = both_all (IsOfSession serial) made (r ∷ []) c.session (s, tt);
         steady = subst (λ xs. IsSteady g xs) joined steady;
-        kept = subst (λ xs. AllByRecursion (λ (x : Standing). IsUpToDate (sight_now g) x.subscription) xs) (sym (begun_more made r))
-            (both_all (λ x. IsUpToDate (sight_now g) x.subscription) (starts_by made) (option_to_list r.standing) kept_begun k);
+        kept = subst (λ xs. AllByRecursion (λ (x : Standing). IsUpToDate (seen_now g) x.subscription) xs) (sym (begun_more made r))
+            (both_all (λ x. IsUpToDate (seen_now g) x.subscription) (starts_by made) (option_to_list r.standing) kept_begun k);
       }
 
   pub stays_ready : (a : Asking) (pending : Pending) → IsSoundSoFar a old pending → IsSoundSoFar a (record old { graph = g }) pending

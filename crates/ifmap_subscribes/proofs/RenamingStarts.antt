@@ -6,10 +6,10 @@ use Rattle.std.proofs.Common.{◌≡◌, refl, sym, ◌∙◌, ap, subst, ℕ, �
 use Rattle.std.proofs.lemmas.Option.{same_Some}
 use Rattle.std.specs.List.{AllByRecursion, remove}
 use Rattle.std.specs.Option.{option_map}
-use Rattle.ifmap_changes.specs.Between.{IsSteady, sight_now, starts_of, HasStartNumber}
+use Rattle.ifmap_changes.specs.Between.{IsSteady, seen_now, starts_of, HasStartNumber}
 use Rattle.ifmap_changes.specs.ifmap_graph.Inside.{GraphInside, IsOwn, links_at}
 use Rattle.ifmap_changes.specs.ifmap_graph.Named.{uses_in}
-use Rattle.ifmap_changes.specs.ifmap_delta.Sights.{IsUpToDate}
+use Rattle.ifmap_changes.specs.ifmap_delta.SeenViews.{IsUpToDate}
 use Rattle.ifmap_changes.specs.ifmap_graph.Seen.{IsStill, links_now, rows_now}
 use Rattle.ifmap_changes.specs.ifmap_graph.Shelved.{list_at, rows_by}
 use Rattle.ifmap_changes.specs.ifmap_graph.Sides.{list_now}
@@ -214,8 +214,8 @@ releases_all all old now rest so none standing s =
 
 -- what was kept is kept, where it is numbered still
 pub kept_still : (old new : GraphInside) (xs : List Standing) → KeepsNumbered old new
-    → AllByRecursion (HasStartNumber new) xs → AllByRecursion (λ x. IsUpToDate (sight_now old) x.subscription) xs
-    → AllByRecursion (λ x. IsUpToDate (sight_now new) x.subscription) xs
+    → AllByRecursion (HasStartNumber new) xs → AllByRecursion (λ x. IsUpToDate (seen_now old) x.subscription) xs
+    → AllByRecursion (λ x. IsUpToDate (seen_now new) x.subscription) xs
 kept_still old new [] keeps numbered kept = tt
 kept_still old new (x ∷ xs) keeps numbered kept =
     (keeps x.subscription numbered.0 kept.0, kept_still old new xs keeps numbered.1 kept.1)

@@ -8,9 +8,9 @@ use Rattle.std.proofs.lemmas.List.Kept.{IsStrictlySortedBy-filter}
 use Rattle.std.proofs.lemmas.List.Sums.{sum_by-cons}
 use Rattle.std.specs.List.{AllByRecursion, filter, list_any}
 use Rattle.std.specs.List.Sorted.{IsStrictlySortedBy}
-use Rattle.ifmap_changes.specs.Between.{IsSteady, sight_now}
+use Rattle.ifmap_changes.specs.Between.{IsSteady, seen_now}
 use Rattle.ifmap_changes.specs.declared.parts.Parts.{Parts}
-use Rattle.ifmap_changes.specs.ifmap_delta.Sights.{IsUpToDate}
+use Rattle.ifmap_changes.specs.ifmap_delta.SeenViews.{IsUpToDate}
 use Rattle.ifmap_changes.specs.ifmap_graph.Seen.{StaysLean, rows_now}
 use Rattle.ifmap_lemmas.specs.AnyOf.{none_of_others}
 use Rattle.ifmap_lemmas.specs.Filters.{all_filter, map_filter}
@@ -250,9 +250,9 @@ module _ (serial : ℕ) (r : Renaming) (old : Parts) (rest : List Renaming) (can
         (steady_among mid.graph r.standing mid.standing.items new.standing.items (starts_by rest) among
         (steady (option_to_list r.standing ++ starts_by rest) can.steady))
 
-    kept_then : AllByRecursion (λ x. IsUpToDate (sight_now new.graph) x.subscription) (new.standing.items ++ starts_by rest)
+    kept_then : AllByRecursion (λ x. IsUpToDate (seen_now new.graph) x.subscription) (new.standing.items ++ starts_by rest)
     kept_then =
-        let kept : Standing → Type 0 = λ x. IsUpToDate (sight_now old.graph) x.subscription in
+        let kept : Standing → Type 0 = λ x. IsUpToDate (seen_now old.graph) x.subscription in
         let more = option_to_list r.standing ++ starts_by rest in
         let parts = all_both kept old.standing.items more can.kept in
         let fewer : AllByRecursion kept mid.standing.items =

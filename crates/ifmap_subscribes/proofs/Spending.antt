@@ -1,7 +1,7 @@
 -- The steps of a subscribe. First those of a search, on a graph that shows the same (`within_span`, `spanned_as`). Then those of one
 -- operation and of the rest are those of all (`one_more`), or they stop there (`one_stops`).
 use Rattle.std.proofs.Common.{◌≡◌, ◌∙◌, ◌<◌, ap, inr, refl, sym, subst, ℕ, suc, ◌+◌, add-one, List, ◌∷◌, drop, drop-cons, length, get_or}
-use Rattle.ifmap_changes.specs.Between.{IsSeen, sight_now}
+use Rattle.ifmap_changes.specs.Between.{IsSeen, seen_now}
 use Rattle.ifmap_changes.specs.ifmap_fresh.Linking.{IsReachedAt}
 use Rattle.ifmap_changes.specs.ifmap_graph.Inside.{GraphInside}
 use Rattle.ifmap_changes.specs.ifmap_graph.Seen.{links_now, rows_now}
@@ -18,7 +18,7 @@ pub within_span : (h : GraphInside) (times : ℕ) (s asked : Search) (before aft
     → IsWithinSpan times (rows_now h) asked before after
 within_span h times s asked before after seen is w =
     inr (
-      sight_now h,
+      seen_now h,
       refl,
       seen,
       subst (λ (t : Search). IsWithin (λ v. length (links_now h v)) (IsReachedAt (rows_now h) (key_at h.names) t) times before after) is w,

@@ -4,8 +4,8 @@ use Rattle.std.proofs.Common.{◌≡◌, ℕ, ◌+◌, ◌-◌, ◌<◌, ◌≤�
 use Rattle.std.proofs.lemmas.List.Sums.{sum_by_push}
 use Rattle.std.proofs.lemmas.Option.{same_Some}
 use Rattle.std.specs.List.{AllByRecursion}
-use Rattle.ifmap_changes.specs.Between.{IsSteady, sight_now, starts_of, HasStartNumber}
-use Rattle.ifmap_changes.specs.ifmap_delta.Sights.{IsUpToDate}
+use Rattle.ifmap_changes.specs.Between.{IsSteady, seen_now, starts_of, HasStartNumber}
+use Rattle.ifmap_changes.specs.ifmap_delta.SeenViews.{IsUpToDate}
 use Rattle.ifmap_changes.specs.ifmap_graph.Back.{KeepsBacks}
 use Rattle.ifmap_changes.specs.ifmap_graph.Inside.{GraphInside, IsOwn}
 use Rattle.ifmap_changes.specs.ifmap_graph.Named.{uses_in}
@@ -140,7 +140,7 @@ module _ (h : GraphInside) (standing : List Standing) (v : ℕ) (start : Identif
 -- a subscription that is to stand has the number, or there is none and the number is let go of
 pub ends_steady : (mid new : GraphInside) (standing : List Standing) (v : ℕ) (search : Search) (o : Option Standing)
     → IsHolding mid standing v search.start → (o ≡ None → IsSteady new standing) → IfSome o (λ x. new ≡ mid)
-    → AllByRecursion (λ x. (x.subscription.search ≡ search) × (x.subscription.region.start ≡ v) × IsUpToDate (sight_now mid) x.subscription)
+    → AllByRecursion (λ x. (x.subscription.search ≡ search) × (x.subscription.region.start ≡ v) × IsUpToDate (seen_now mid) x.subscription)
     (option_to_list o) → IsSteady new (standing ++ option_to_list o)
 ends_steady mid new standing v search None held unused used begun =
     subst (λ l. IsSteady new l) (sym (append-nil standing)) (unused refl)

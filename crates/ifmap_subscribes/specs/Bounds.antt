@@ -2,7 +2,7 @@
 -- any of these bounds.
 use Rattle.std.specs.Prelude.{◌≡◌, ◌≤◌, ◌⊎◌, ℕ, List, [], ◌∷◌, length}
 use Rattle.std.proofs.Common.{arith, inl}
-use Rattle.ifmap_changes.specs.ifmap_delta.Sights.{ViewSeen}
+use Rattle.ifmap_changes.specs.ifmap_delta.SeenViews.{ViewSeen}
 use Rattle.ifmap_changes.specs.ifmap_fresh.Linking.{IsReachedAt}
 use Rattle.ifmap_changes.specs.ifmap_region.Bounds.{IsWithin}
 use Rattle.ifmap_changes.specs.ifmap_requests.declared.requests.SubscribeOp.{SubscribeOp}

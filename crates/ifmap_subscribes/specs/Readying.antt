@@ -5,9 +5,9 @@ use Rattle.std.specs.Cmp.Lexicographic.{slice_cmp}
 use Rattle.std.specs.List.{AllByRecursion, list_any}
 use Rattle.std.specs.List.Sorted.{IsStrictlySortedBy}
 use Rattle.std.specs.Ordering.{nat_cmp}
-use Rattle.ifmap_changes.specs.Between.{Asking, IsSoundSoFar, IsSteady, SharesNumbers, sessions_left, sight_now, state_now, starts_of}
+use Rattle.ifmap_changes.specs.Between.{Asking, IsSoundSoFar, IsSteady, SharesNumbers, sessions_left, seen_now, state_now, starts_of}
 use Rattle.ifmap_changes.specs.declared.parts.Parts.{Parts}
-use Rattle.ifmap_changes.specs.ifmap_delta.Sights.{IsUpToDate}
+use Rattle.ifmap_changes.specs.ifmap_delta.SeenViews.{IsUpToDate}
 use Rattle.ifmap_changes.specs.ifmap_graph.Back.{KeepsBacks}
 use Rattle.ifmap_changes.specs.ifmap_graph.Inside.{GraphInside, IsOwn}
 use Rattle.ifmap_changes.specs.ifmap_graph.Seen.{AwaitsMore, BringsNoNumbers, IsStill, KeepsNumbers, StaysLean, links_now, rows_now}
@@ -83,7 +83,7 @@ pub record AreCounted (serial : ℕ) (t : Told) (readying : Readying) : Type 0 w
 pub record CanStand (serial : ℕ) (parts : Parts) (renamings : List Renaming) : Type 0 where
   pub session : AllByRecursion (IsOfSession serial) renamings
   pub steady : IsSteady parts.graph (parts.standing.items ++ starts_by renamings)
-  pub kept : AllByRecursion (λ x. IsUpToDate (sight_now parts.graph) x.subscription) (starts_by renamings)
+  pub kept : AllByRecursion (λ x. IsUpToDate (seen_now parts.graph) x.subscription) (starts_by renamings)
 
 -- operations are ready: what is to stand can, and what is kept of them is so
 pub record AreReadied (serial : ℕ) (t : Told) (parts : Parts) (readying : Readying) : Type 0 where

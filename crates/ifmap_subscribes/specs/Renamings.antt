@@ -5,12 +5,12 @@ use Rattle.std.specs.List.{AllByRecursion, list_any}
 use Rattle.std.specs.List.Sorted.{IsStrictlySortedBy}
 use Rattle.std.specs.Ordering.{nat_cmp, ordering_then}
 use Rattle.std.specs.declared.cmp.Ordering.{Ordering}
-use Rattle.ifmap_changes.specs.Between.{Asking, IsSteady, sight_now, state_now}
+use Rattle.ifmap_changes.specs.Between.{Asking, IsSteady, seen_now, state_now}
 use Rattle.ifmap_subscribes.specs.declared.names.NameNow.{NameNow}
 use Rattle.ifmap_changes.specs.declared.parts.Parts.{Parts}
 use Rattle.ifmap_subscribes.specs.declared.renamings.Renaming.{Renaming}
 use Rattle.ifmap_changes.specs.ifmap_delta.declared.subscriptions.Subscription.{Subscription}
-use Rattle.ifmap_changes.specs.ifmap_delta.Sights.{IsUpToDate}
+use Rattle.ifmap_changes.specs.ifmap_delta.SeenViews.{IsUpToDate}
 use Rattle.ifmap_changes.specs.ifmap_machine.State as machine
 use Rattle.ifmap_changes.specs.ifmap_machine.State.{standing_order}
 use Rattle.ifmap_changes.specs.ifmap_machine.Subscribing.{Told, drop_name, is_of_name}
@@ -64,7 +64,7 @@ IsOfSession serial r = AllByRecursion (λ (x : Standing). (x.serial ≡ serial) 
 abbrev pub KeepsNumbered : GraphInside → GraphInside → Type 0
 KeepsNumbered old new =
     (sub : Subscription) → key_at new.names sub.region.start ≡ Some sub.search.start
-    → IsUpToDate (sight_now old) sub → IsUpToDate (sight_now new) sub
+    → IsUpToDate (seen_now old) sub → IsUpToDate (seen_now new) sub
 
 -- holds of numbers were let go of: what is stored, the links, the ways back and what is waited for stay, nothing is left behind, no
 -- number comes, and what is kept is kept still
@@ -109,7 +109,7 @@ pub record CanRenameEach (serial : ℕ) (renamings : List Renaming) (parts : Par
   pub session : AllByRecursion (IsOfSession serial) renamings
   pub steady : IsSteady parts.graph (parts.standing.items ++ starts_by renamings)
   pub ordered : IsStrictlySortedBy standing_order (map standing_of parts.standing.items)
-  pub kept : AllByRecursion (λ x. IsUpToDate (sight_now parts.graph) x.subscription) (parts.standing.items ++ starts_by renamings)
+  pub kept : AllByRecursion (λ x. IsUpToDate (seen_now parts.graph) x.subscription) (parts.standing.items ++ starts_by renamings)
   pub places : vec_len parts.standing + length renamings ≤ vec_capacity parts.standing
   pub room : item_count renamings ≤ spare_of serial parts.sessions.spare
 

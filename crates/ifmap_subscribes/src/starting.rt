@@ -1,8 +1,8 @@
 //! How a subscription starts, under a name.
 ghost use Rattle.std.specs.Prelude.{◌≡◌, ◌<◌, ◌++◌, ℕ, List, None, Some, IfOk, IfSome, OnErr, option_to_list};
 ghost use Rattle.std.specs.List.{AllByRecursion};
-ghost use Rattle.ifmap_changes.specs.Between.{IsSteady, sight_now};
-ghost use Rattle.ifmap_changes.specs.ifmap_delta.Sights.{IsUpToDate};
+ghost use Rattle.ifmap_changes.specs.Between.{IsSteady, seen_now};
+ghost use Rattle.ifmap_changes.specs.ifmap_delta.SeenViews.{IsUpToDate};
 ghost use Rattle.ifmap_changes.specs.ifmap_graph.Seen.{HasFewOwn, rows_now};
 ghost use Rattle.ifmap_ident.specs.declared.codes.Code.TheVariants.{SearchResultsTooBig};
 ghost use Rattle.ifmap_changes.specs.ifmap_machine.Telling.{limit_note};
@@ -46,7 +46,7 @@ pub(crate) fn begin_name<L: Ledger>(
     ensures begins { IfOk result (BeginsName (rows_now graph.old) wanted.now.serial
         wanted.now.name.now wanted.now.search.now) }
     ensures kept { IfOk result (λ renaming. AllByRecursion
-        (λ x. IsUpToDate (sight_now graph.new) x.subscription) (option_to_list renaming.standing)) }
+        (λ x. IsUpToDate (seen_now graph.new) x.subscription) (option_to_list renaming.standing)) }
     ensures steady { IfOk result (λ renaming. (standing : List Standing)
         → IsSteady graph.old standing
         → IsSteady graph.new (standing ++ option_to_list renaming.standing)) }
@@ -113,7 +113,7 @@ fn begin_at<L: Ledger>(
     ensures kept { IfOk result (λ renaming. AllByRecursion
         (λ x. (x.subscription.search ≡ wanted.now.search.now)
         × (x.subscription.region.start ≡ number)
-        × IsUpToDate (sight_now graph.now) x.subscription) (option_to_list renaming.standing)) }
+        × IsUpToDate (seen_now graph.now) x.subscription) (option_to_list renaming.standing)) }
     ensures steps { IsWithinSpan 4 (rows_now graph.now) wanted.now.search.now steps.old steps.new }
 {
     graph.is_view();

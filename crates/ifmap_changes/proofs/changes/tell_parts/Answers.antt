@@ -1,7 +1,7 @@
 use Rattle.std.proofs.Common.{◌≡◌, ◌∙◌, ap, refl, sym, subst, map, slice_get}
 use Rattle.ifmap_lemmas.specs.Results.{on_err}
-use Rattle.ifmap_tellings.specs.ifmap_delta.Sights.{IsUpToDate}
-use Rattle.ifmap_tellings.specs.ifmap_delta.Ways.{HasSameSearch}
+use Rattle.ifmap_tellings.specs.ifmap_delta.SeenViews.{IsUpToDate}
+use Rattle.ifmap_tellings.specs.ifmap_delta.SameSearches.{HasSameSearch}
 use Rattle.ifmap_tellings.specs.ifmap_standing.Kept.{AtEach, StaysRelated}
 use Rattle.ifmap_tellings.specs.ifmap_standing.News.{news_of_each}
 use Rattle.ifmap_tellings.specs.ifmap_standing.Standing.{standing_of}
@@ -9,7 +9,7 @@ use Rattle.ifmap_graph.specs.Seen.{rows_next, rows_now}
 use Rattle.ifmap_tellings.specs.Tellings.{AllKept}
 use Rattle.ifmap_changes.specs.declared.parts.Parts.{Parts}
 use Rattle.ifmap_changes.specs.Between.{IsSoundSoFar}
-use Rattle.ifmap_changes.specs.Changes.{IsTold, sight_next}
+use Rattle.ifmap_changes.specs.Changes.{IsTold, seen_next}
 use Rattle.ifmap_changes.proofs.Told.{HasNews, alone_now, can_tell_all, flags_now, is_told, live_now, long_news, skips, wide_all, within_all}
 use Rattle.ifmap_changes.proofs.changes.tell_parts.Given as given
 use Rattle.ifmap_changes.proofs.changes.tell_parts.Goals as goal
@@ -76,7 +76,7 @@ returns-in-Ok-clause-told g c =
     let place = (goal.at.returns-in-Ok-clause-told g c).After-deref-2
     in let pending = c.args.pending.now
     in let told = c.in-Ok.ensures
-    in let kept = subst (AllKept (λ x. IsUpToDate (sight_next c.args.parts.now.graph) x.subscription) pending.gone.items)
+    in let kept = subst (AllKept (λ x. IsUpToDate (seen_next c.args.parts.now.graph) x.subscription) pending.gone.items)
     (sym c.deref-2.ensures.value) (λ i x e f. c.in_ok-told.ensures.kept i x e (ap (λ l. slice_get l i) c.deref.ensures.value ∙ f))
     in let new : Parts = record {
       graph = c.tell_standing.new.parts.graph;

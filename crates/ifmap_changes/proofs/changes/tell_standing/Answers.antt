@@ -1,9 +1,9 @@
 use Rattle.std.proofs.Common.{◌∙◌, ap, sym, subst, drop, length, slice_get}
 use Rattle.std.proofs.lemmas.Result.{on_ok_weaker}
 use Rattle.ifmap_lemmas.specs.Fronts.{front_taken}
-use Rattle.ifmap_tellings.specs.ifmap_delta.Sights.{IsUpToDate}
+use Rattle.ifmap_tellings.specs.ifmap_delta.SeenViews.{IsUpToDate}
 use Rattle.ifmap_graph.specs.Inside.{GraphInside}
-use Rattle.ifmap_changes.specs.Changes.{sight_next}
+use Rattle.ifmap_changes.specs.Changes.{seen_next}
 use Rattle.ifmap_changes.proofs.changes.tell_standing.Goals as goal
 
 pub tell_change-requires-clause-kept : goal.tell_change-requires-clause-kept
@@ -16,5 +16,5 @@ returns-clause-kept g c =
     in let front = front_taken c.args.parts.now.standing.len new (drop (length new) c.args.parts.now.standing.items)
     (c.tell_change.ensures.same.long ∙ c.deref_mut.ensures.len)
     in on_ok_weaker c.tell_change.result
-    (λ f i x e flag. subst (λ (h : GraphInside). IsUpToDate (sight_next h) x.subscription) c.of-draft.ensures
+    (λ f i x e flag. subst (λ (h : GraphInside). IsUpToDate (seen_next h) x.subscription) c.of-draft.ensures
     (f i x (ap (λ l. slice_get l i) (sym front) ∙ e) flag)) c.tell_change.ensures.kept

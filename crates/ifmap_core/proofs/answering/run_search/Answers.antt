@@ -1,5 +1,5 @@
 use Rattle.std.proofs.Common.{◌≡◌, ◌<◌, inr, refl}
-use Rattle.ifmap_subscribes.specs.ifmap_changes.Between.{sight_now}
+use Rattle.ifmap_subscribes.specs.ifmap_changes.Between.{seen_now}
 use Rattle.ifmap_core.proofs.InSession.{refuses_another, finds_much_own, finds_own, finds_own_within, no_finds, refuses_nobody}
 use Rattle.ifmap_core.proofs.answering.run_search.Goals as goal
 use Rattle.ifmap_subscribes.specs.ifmap_fresh.Fresh.{fresh_size}
@@ -33,17 +33,17 @@ returns-in-Nobody-clause-leads g c =
 pub returns-in-Ok-clause-steps : goal.returns-in-Ok-clause-steps
 returns-in-Ok-clause-steps g c =
     finds_own_within c.requires.can c.args.wish.now.id.now c.in-Own.serial c.in-Own.ensures c.args.steps.now c.fresh.new.steps
-    c.args.wish.now.asked.now (inr (sight_now c.args.parts.now.graph, refl, c.is_view.ensures, c.fresh.ensures.steps))
+    c.args.wish.now.asked.now (inr (seen_now c.args.parts.now.graph, refl, c.is_view.ensures, c.fresh.ensures.steps))
 
 pub returns-in-Err-TooBig-clause-steps : goal.returns-in-Err-TooBig-clause-steps
 returns-in-Err-TooBig-clause-steps g c =
     finds_own_within c.requires.can c.args.wish.now.id.now c.in-Own.serial c.in-Own.ensures c.args.steps.now c.fresh.new.steps
-    c.args.wish.now.asked.now (inr (sight_now c.args.parts.now.graph, refl, c.is_view.ensures, c.fresh.ensures.steps))
+    c.args.wish.now.asked.now (inr (seen_now c.args.parts.now.graph, refl, c.is_view.ensures, c.fresh.ensures.steps))
 
 pub returns-in-Err-NoMemory-clause-steps : goal.returns-in-Err-NoMemory-clause-steps
 returns-in-Err-NoMemory-clause-steps g c =
     finds_own_within c.requires.can c.args.wish.now.id.now c.in-Own.serial c.in-Own.ensures c.args.steps.now c.fresh.new.steps
-    c.args.wish.now.asked.now (inr (sight_now c.args.parts.now.graph, refl, c.is_view.ensures, c.fresh.ensures.steps))
+    c.args.wish.now.asked.now (inr (seen_now c.args.parts.now.graph, refl, c.is_view.ensures, c.fresh.ensures.steps))
 
 pub returns-in-Another-clause-steps : goal.returns-in-Another-clause-steps
 returns-in-Another-clause-steps g c = no_finds c.requires.can c.args.wish.now.id.now c.args.steps.now c.args.wish.now.asked.now

@@ -8,7 +8,7 @@ use Rattle.ifmap_delta.specs.Bounds.{IsWithinBound}
 use Rattle.ifmap_delta.specs.Changes.{ShowsAfter}
 use Rattle.ifmap_delta.specs.Located.{AreLocated}
 use Rattle.ifmap_folds.specs.Differences.{difference}
-use Rattle.ifmap_delta.specs.Sights.{view_seen}
+use Rattle.ifmap_delta.specs.SeenViews.{view_seen}
 use Rattle.ifmap_delta.proofs.Repairing.{change_steps, repair_steps}
 use Rattle.ifmap_delta.proofs.Sizing.{sizes_differ}
 use Rattle.ifmap_delta.proofs.Telling.{difference_is}

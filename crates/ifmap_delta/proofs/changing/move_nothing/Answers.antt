@@ -7,7 +7,7 @@ use Rattle.ifmap_region.specs.Marks.{mark_of, mark_over}
 use Rattle.ifmap_folds.specs.Differences.{difference}
 use Rattle.ifmap_delta.specs.Bounds.{IsWithinBound}
 use Rattle.ifmap_delta.specs.Flipped.{AreFlipsOf}
-use Rattle.ifmap_delta.specs.Sights.{view_seen}
+use Rattle.ifmap_delta.specs.SeenViews.{view_seen}
 use Rattle.ifmap_delta.proofs.Repairing.{repair_steps, repaired_marks, repaired_steps}
 use Rattle.ifmap_delta.proofs.Sizing.{sizes_differ}
 use Rattle.ifmap_delta.proofs.Staying.{all_settled, no_flips}

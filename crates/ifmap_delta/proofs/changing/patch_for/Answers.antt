@@ -5,7 +5,7 @@ use Rattle.ifmap_region.specs.Marks.{mark_of, mark_over}
 use Rattle.ifmap_delta.specs.Bounds.{IsNear, one_and_links}
 use Rattle.ifmap_delta.specs.Flipped.{AreFlipsOf}
 use Rattle.ifmap_delta.specs.Located.{AreLocated, IsLocatedTwice}
-use Rattle.ifmap_delta.specs.Sights.{view_seen}
+use Rattle.ifmap_delta.specs.SeenViews.{view_seen}
 use Rattle.ifmap_delta.proofs.Flipping.{added_linked}
 use Rattle.ifmap_delta.proofs.InStep.{each_long}
 use Rattle.ifmap_delta.proofs.Repairing.{repaired_marks, repaired_steps}

@@ -1,6 +1,6 @@
 use Rattle.std.proofs.Common.{take}
 use Rattle.ifmap_delta.specs.Located.{AreLocated}
-use Rattle.ifmap_delta.specs.Sights.{view_seen}
+use Rattle.ifmap_delta.specs.SeenViews.{view_seen}
 use Rattle.ifmap_delta.proofs.locating.locate_changes.Given as goal
 
 abbrev pub invariant-loop-change : goal.invariant-loop-change

@@ -1,6 +1,6 @@
 use Rattle.std.proofs.Common.{◌+◌, sym, subst, take}
 use Rattle.ifmap_delta.specs.Located.{AreNotesLocated, IsLocated}
-use Rattle.ifmap_delta.specs.Sights.{view_seen}
+use Rattle.ifmap_delta.specs.SeenViews.{view_seen}
 use Rattle.ifmap_delta.proofs.InStep.{each_more}
 use Rattle.ifmap_delta.proofs.locating.locate_notes.Goals as goal
 

@@ -1,6 +1,6 @@
 use Rattle.std.proofs.Common.{take}
 use Rattle.ifmap_delta.specs.Located.{AreNotesLocated}
-use Rattle.ifmap_delta.specs.Sights.{view_seen}
+use Rattle.ifmap_delta.specs.SeenViews.{view_seen}
 use Rattle.ifmap_delta.proofs.locating.locate_notes.Given as goal
 
 abbrev pub invariant-loop-note : goal.invariant-loop-note

@@ -2,7 +2,7 @@ use Rattle.std.proofs.Common.{rules, ◌≡◌, ◌∙◌, ap, length, sym, subs
 use Rattle.std.specs.List.{AllByRecursion}
 use Rattle.ifmap_ident.specs.Items.{IsCanonItem}
 use Rattle.ifmap_delta.specs.Located.{AreNotesLocated, IsLocated}
-use Rattle.ifmap_delta.specs.Sights.{view_seen}
+use Rattle.ifmap_delta.specs.SeenViews.{view_seen}
 use Rattle.ifmap_delta.proofs.InStep.{each_long}
 use Rattle.ifmap_delta.proofs.noting.notes.Goals as goal
 

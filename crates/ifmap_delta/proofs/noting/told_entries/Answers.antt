@@ -2,7 +2,7 @@ use Rattle.std.proofs.Common.{◌∙◌, ap, sym, ◌++◌, ◌∷◌, []}
 use Rattle.ifmap_ident.specs.Items.{IsCanonItem}
 use Rattle.ifmap_folds.specs.Notes.{told_notes}
 use Rattle.ifmap_delta.specs.Located.{IsLocated}
-use Rattle.ifmap_delta.specs.Sights.{view_seen}
+use Rattle.ifmap_delta.specs.SeenViews.{view_seen}
 use Rattle.ifmap_delta.proofs.Along.{notes_more}
 use Rattle.ifmap_delta.proofs.InStep.{each_at}
 use Rattle.ifmap_delta.proofs.noting.told_entries.Goals as goal

@@ -1,4 +1,4 @@
-use Rattle.ifmap_delta.specs.Sights.{view_seen}
+use Rattle.ifmap_delta.specs.SeenViews.{view_seen}
 use Rattle.ifmap_delta.proofs.Marking.{marks_are, steps_at}
 use Rattle.ifmap_delta.proofs.subscribing.region_of.Goals as goal
 

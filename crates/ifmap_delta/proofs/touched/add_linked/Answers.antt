@@ -1,6 +1,6 @@
 use Rattle.std.proofs.Common.{rules, Some, ◌++◌, [], slice_get, take, ap, ◌∙◌, sym, arith, append_assoc}
 use Rattle.std.specs.List.{cons_option, filter_map}
-use Rattle.ifmap_delta.specs.Sights.{view_seen}
+use Rattle.ifmap_delta.specs.SeenViews.{view_seen}
 use Rattle.ifmap_delta.specs.Touched.{link_item}
 use Rattle.ifmap_fresh.specs.laws.AlongLaws.{along_more}
 use Rattle.ifmap_delta.proofs.touched.add_linked.Goals as goal

@@ -1,6 +1,6 @@
 use Rattle.std.proofs.Common.{◌≡◌, ◌≤◌, ◌+◌, ◌++◌, Some, take}
 use Rattle.std.specs.List.{filter_map}
-use Rattle.ifmap_delta.specs.Sights.{view_seen}
+use Rattle.ifmap_delta.specs.SeenViews.{view_seen}
 use Rattle.ifmap_delta.specs.Touched.{link_item}
 use Rattle.ifmap_delta.proofs.touched.add_linked.Given as goal
 

@@ -2,7 +2,7 @@ use Rattle.std.proofs.Common.{ℕ, ◌++◌, ap, ◌∙◌, sym, arith, append_a
 use Rattle.ifmap_fresh.specs.Collected.{numbers_of}
 use Rattle.ifmap_lemmas.specs.Weights.{weight_more, weight_within}
 use Rattle.ifmap_region.specs.Marks.{mark_of, mark_over}
-use Rattle.ifmap_delta.specs.Sights.{view_seen}
+use Rattle.ifmap_delta.specs.SeenViews.{view_seen}
 use Rattle.ifmap_delta.specs.Touched.{brought_items, looked_along}
 use Rattle.ifmap_fresh.specs.laws.AlongLaws.{brought_more}
 use Rattle.ifmap_delta.proofs.touched.add_moved.Goals as goal

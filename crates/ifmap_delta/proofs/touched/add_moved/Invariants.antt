@@ -1,6 +1,6 @@
 use Rattle.std.proofs.Common.{◌≡◌, ◌≤◌, ◌+◌, ◌++◌, map, take, sum_by}
 use Rattle.ifmap_region.specs.Marks.{mark_of, mark_over}
-use Rattle.ifmap_delta.specs.Sights.{view_seen}
+use Rattle.ifmap_delta.specs.SeenViews.{view_seen}
 use Rattle.ifmap_delta.specs.Touched.{looked_along, moved_items}
 use Rattle.ifmap_delta.proofs.touched.add_moved.Given as goal
 

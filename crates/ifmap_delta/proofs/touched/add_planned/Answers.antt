@@ -3,7 +3,7 @@ use Rattle.ifmap_fresh.specs.Fresh.{is_looked_at}
 use Rattle.ifmap_ident.specs.Items.{IsCanonItem}
 use Rattle.ifmap_ident.specs.declared.items.Item.{Item}
 use Rattle.ifmap_delta.specs.Located.{IsLocatedTwice}
-use Rattle.ifmap_delta.specs.Sights.{view_seen}
+use Rattle.ifmap_delta.specs.SeenViews.{view_seen}
 use Rattle.ifmap_delta.specs.Touched.{planned_items}
 use Rattle.ifmap_delta.proofs.Along.{planned_more}
 use Rattle.ifmap_delta.proofs.InStep.{each_at}

@@ -6,7 +6,7 @@ use Rattle.ifmap_fresh.specs.Fresh.{is_looked_at}
 use Rattle.ifmap_region.specs.Marks.{mark_of}
 use Rattle.ifmap_delta.specs.Located.{IsLocatedTwice}
 use Rattle.ifmap_delta.specs.Shown.{patched_mark}
-use Rattle.ifmap_delta.specs.Sights.{HaveMarks, view_seen}
+use Rattle.ifmap_delta.specs.SeenViews.{HaveMarks, view_seen}
 use Rattle.ifmap_delta.specs.Touched.{is_looked_at_either, moved_items, planned_items}
 use Rattle.ifmap_fresh.specs.laws.OrderedLaws.{came_from, rises, stays}
 use Rattle.ifmap_delta.proofs.InStep.{each_long}

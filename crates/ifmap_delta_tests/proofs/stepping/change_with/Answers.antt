@@ -2,17 +2,17 @@ use Rattle.std.proofs.Common.{subst, sym}
 use Rattle.ifmap_delta.specs.Changes.{ShowsAfter, WouldKeep}
 use Rattle.ifmap_graph.specs.Inside.{GraphInside}
 use Rattle.ifmap_plans.specs.declared.plans.Plan.{Plan}
-use Rattle.ifmap_delta_tests.specs.Worlds.{IsWorldSeen, sight_next, sight_now}
+use Rattle.ifmap_delta_tests.specs.Worlds.{IsWorldSeen, seen_next, seen_now}
 use Rattle.ifmap_delta_tests.proofs.stepping.change_with.Goals as goal
 
 pub change-requires-clause-planned : goal.change-requires-clause-planned
 change-requires-clause-planned g c =
-    let old = sight_now c.args.graph.now
+    let old = seen_now c.args.graph.now
     in record {
       graph = c.requires.now;
-      draft = subst (λ (h : GraphInside). IsWorldSeen (sight_next h)) (sym c.of-draft.ensures) c.requires.next;
-      change = subst (λ (p : Plan). ShowsAfter old (sight_next c.of-draft.result) p.changes) (sym c.in_ok-located.ensures.plan)
-          (subst (λ (h : GraphInside). ShowsAfter old (sight_next h) c.args.plan.now.changes) (sym c.of-draft.ensures)
+      draft = subst (λ (h : GraphInside). IsWorldSeen (seen_next h)) (sym c.of-draft.ensures) c.requires.next;
+      change = subst (λ (p : Plan). ShowsAfter old (seen_next c.of-draft.result) p.changes) (sym c.in_ok-located.ensures.plan)
+          (subst (λ (h : GraphInside). ShowsAfter old (seen_next h) c.args.plan.now.changes) (sym c.of-draft.ensures)
           c.requires.change);
       located = c.in_ok-located.ensures.located.changes;
     }
@@ -20,5 +20,5 @@ change-requires-clause-planned g c =
 pub returns : goal.returns
 returns g c =
     let moved = c.in_ok-moved.moved
-    in subst (λ (h : GraphInside). WouldKeep (sight_next h) c.args.subscription.now moved.patch moved.new_size) c.of-draft.ensures
+    in subst (λ (h : GraphInside). WouldKeep (seen_next h) c.args.subscription.now moved.patch moved.new_size) c.of-draft.ensures
     c.in_ok-moved.ensures.moved.keeps

@@ -1,4 +1,4 @@
-use Rattle.ifmap_delta_tests.specs.Worlds.{sight_next}
+use Rattle.ifmap_delta_tests.specs.Worlds.{seen_next}
 use Rattle.ifmap_delta_tests.proofs.Lasting.{kept_made, quiet_made}
 use Rattle.ifmap_delta_tests.proofs.stepping.make_step.Goals as goal
 
@@ -13,4 +13,4 @@ returns-clause-quiet c =
 pub returns-clause-kept : goal.returns-clause-kept
 returns-clause-kept c =
     kept_made c.args.graph.now c.commit_kept.new.self c.take_over-undo.new.subscription c.commit_kept.ensures.now
-    c.commit_kept.ensures.links c.commit_kept.ensures.names (c.take_over-undo.ensures.kept (sight_next c.args.graph.now) c.requires.keeps)
+    c.commit_kept.ensures.links c.commit_kept.ensures.names (c.take_over-undo.ensures.kept (seen_next c.args.graph.now) c.requires.keeps)

@@ -4,14 +4,14 @@ use Rattle.ifmap_plans.specs.declared.plans.ItemChange.{ItemChange}
 use Rattle.ifmap_graph.specs.Bringing.{BringsShelves, flagged_items, graph_fields}
 use Rattle.ifmap_graph.specs.Out.{items_changed}
 use Rattle.ifmap_graph.proofs.Accepting.{as_many, item_at}
-use Rattle.ifmap_graph.proofs.Grown.{few_kept, grown_on, placed_there, places_none, places_on, placing}
+use Rattle.ifmap_graph.proofs.Grown.{few_kept, grown_on, placed_there, places_none, places_on, begins_placing}
 use Rattle.ifmap_graph.proofs.bringing.place_items.Goals as goal
 use Rattle.ifmap_lemmas.specs.Members.{all_of_map}
 use Rattle.ifmap_lemmas.specs.Filters.{all_at}
 
 pub loop-change-init : goal.loop-change-init
 loop-change-init c =
-    placing (items_changed c.args.changes.now)
+    begins_placing (items_changed c.args.changes.now)
     (graph_fields c.args.names.now c.args.shelves.now c.args.links.now.items) c.requires.inside c.args.fresh.now.items c.requires.none
 
 pub place_missing-requires-clause-inside : goal.place_missing-requires-clause-inside

@@ -2,11 +2,11 @@ use Rattle.std.proofs.Common.{false, get_or, arith}
 use Rattle.std.proofs.lemmas.List.{drop_more}
 use Rattle.ifmap_graph.specs.Out.{items_changed}
 use Rattle.ifmap_graph.proofs.Accepting.{here_changed}
-use Rattle.ifmap_graph.proofs.Marks.{taken_all, takes_empty, takes_idle, takes_on, taking}
+use Rattle.ifmap_graph.proofs.Marks.{taken_all, takes_empty, takes_idle, takes_on, begins_taking}
 use Rattle.ifmap_graph.proofs.bringing.take_shelves.Goals as goal
 
 pub loop-i-init : goal.loop-i-init
-loop-i-init c = taking (items_changed c.args.changes.now) c.args.fresh.now c.args.names.now c.args.shelves.now c.requires.apart
+loop-i-init c = begins_taking (items_changed c.args.changes.now) c.args.fresh.now c.args.names.now c.args.shelves.now c.requires.apart
 
 pub take_shelf-requires-clause-inside : goal.take_shelf-requires-clause-inside
 take_shelf-requires-clause-inside c = (c.requires.inside.0, c.loop-i.invariant.less.inside c.requires.inside.0 c.requires.inside.1)

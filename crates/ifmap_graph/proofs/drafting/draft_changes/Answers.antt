@@ -1,9 +1,9 @@
 use Rattle.std.proofs.Common.{arith, ◌∙◌}
-use Rattle.ifmap_graph.proofs.Planned.{drafted_after, drafted_out, drafting, drafts_on, there_at, within_on}
+use Rattle.ifmap_graph.proofs.Planned.{drafted_after, drafted_out, begins_drafting, drafts_on, there_at, within_on}
 use Rattle.ifmap_graph.proofs.drafting.draft_changes.Goals as goal
 
 pub loop-change-init : goal.loop-change-init
-loop-change-init c = drafting c.args.changes.now c.args.shelves.now c.requires.shelved c.requires.bare c.requires.fits
+loop-change-init c = begins_drafting c.args.changes.now c.args.shelves.now c.requires.shelved c.requires.bare c.requires.fits
 
 pub draft_one-requires-clause-shelved : goal.draft_one-requires-clause-shelved
 draft_one-requires-clause-shelved c = c.loop-change.invariant.shelved

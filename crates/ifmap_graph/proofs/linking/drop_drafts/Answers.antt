@@ -1,10 +1,10 @@
 use Rattle.std.proofs.Common.{◌<◌, ℕ, length, subst, sym, ap, ◌∙◌, arith}
 use Rattle.ifmap_graph.specs.Turning.{sides_at}
-use Rattle.ifmap_graph.proofs.Readying.{drops_on, drops_within, dropping, drops_drafts}
+use Rattle.ifmap_graph.proofs.Readying.{drops_on, drops_within, begins_dropping, drops_drafts}
 use Rattle.ifmap_graph.proofs.linking.drop_drafts.Goals as goal
 
 pub loop-way-init : goal.loop-way-init
-loop-way-init c = dropping c.args.links.now.items c.args.ways.now c.requires
+loop-way-init c = begins_dropping c.args.links.now.items c.args.ways.now c.requires
 
 pub drop_draft-requires : goal.drop_draft-requires
 drop_draft-requires c =

@@ -1,9 +1,10 @@
 use Rattle.std.proofs.Common.{◌<◌, ℕ, subst, sym, arith}
-use Rattle.ifmap_graph.proofs.Touching.{touched_all, touches_on, touching}
+use Rattle.ifmap_graph.proofs.Touching.{touched_all, touches_on, begins_touching}
 use Rattle.ifmap_graph.proofs.linking.touch_slots.Goals as goal
 
 pub loop-at-init : goal.loop-at-init
-loop-at-init c = touching c.args.slots.now c.args.links.now.items c.args.touched.now c.args.ways.now.items c.requires.ready c.requires.bare
+loop-at-init c = begins_touching c.args.slots.now c.args.links.now.items c.args.touched.now c.args.ways.now.items c.requires.ready
+    c.requires.bare
 
 pub touch_slot-requires-clause-pairs : goal.touch_slot-requires-clause-pairs
 touch_slot-requires-clause-pairs c = λ at v w j.

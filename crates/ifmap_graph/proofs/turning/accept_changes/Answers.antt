@@ -2,13 +2,13 @@ use Rattle.std.proofs.Common.{◌<◌, ◌≤◌, length, get_or, sym, ◌∙◌
 use Rattle.std.proofs.lemmas.Simd.{map-map}
 use Rattle.ifmap_lemmas.specs.Stepping.{some_in}
 use Rattle.ifmap_plans.specs.declared.plans.ItemChange.{ItemChange}
-use Rattle.ifmap_graph.proofs.Accepting.{accepted_bare, accepted_lists, accepted_now, accepting, accepts_on, drafted_at, here_changed, stored_at, as_many}
+use Rattle.ifmap_graph.proofs.Accepting.{accepted_bare, accepted_lists, accepted_now, begins_accepting, accepts_on, drafted_at, here_changed, stored_at, as_many}
 use Rattle.ifmap_graph.proofs.turning.accept_changes.Goals as goal
 use Rattle.ifmap_graph.specs.Out.{items_changed}
 
 pub loop-i-init : goal.loop-i-init
 loop-i-init c =
-    accepting (items_changed c.args.changes.now) c.args.shelves.now c.args.lists.now.items c.requires.shelved c.requires.out.drafted
+    begins_accepting (items_changed c.args.changes.now) c.args.shelves.now c.args.lists.now.items c.requires.shelved c.requires.out.drafted
     c.requires.out.within
     c.requires.out.apart (c.requires.long ∙ sym (as_many c.args.changes.now))
 

@@ -1,11 +1,12 @@
 use Rattle.std.proofs.Common.{◌<◌, ◌≤◌, length, get_or, arith}
-use Rattle.ifmap_graph.proofs.Accepting.{discarded_bare, discarded_next, discarding, discards_on, here_changed, there_at, as_many}
+use Rattle.ifmap_graph.proofs.Accepting.{discarded_bare, discarded_next, begins_discarding, discards_on, here_changed, there_at, as_many}
 use Rattle.ifmap_graph.proofs.turning.discard_changes.Goals as goal
 use Rattle.ifmap_graph.specs.Out.{items_changed}
 use Rattle.ifmap_lemmas.specs.Stepping.{some_in}
 
 pub loop-i-init : goal.loop-i-init
-loop-i-init c = discarding (items_changed c.args.changes.now) c.args.shelves.now c.requires.shelved c.requires.there c.requires.within
+loop-i-init c = begins_discarding (items_changed c.args.changes.now) c.args.shelves.now
+    c.requires.shelved c.requires.there c.requires.within
 
 pub discard_at-requires-clause-there : goal.discard_at-requires-clause-there
 discard_at-requires-clause-there c = λ d.

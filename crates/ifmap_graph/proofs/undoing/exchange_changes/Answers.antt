@@ -1,13 +1,13 @@
 use Rattle.std.proofs.Common.{◌<◌, [], length, get_or, sym, ◌∙◌, arith}
 use Rattle.ifmap_graph.proofs.Accepting.{here_changed, stored_at, as_many}
-use Rattle.ifmap_graph.proofs.Restoring.{all_restored, restores_on, restoring, shelf_there}
+use Rattle.ifmap_graph.proofs.Restoring.{all_restored, restores_on, begins_restoring, shelf_there}
 use Rattle.ifmap_graph.proofs.undoing.exchange_changes.Goals as goal
 use Rattle.ifmap_graph.specs.Out.{items_changed}
 use Rattle.ifmap_lemmas.specs.Stepping.{some_in}
 
 pub loop-i-init : goal.loop-i-init
 loop-i-init c =
-    restoring (items_changed c.args.changes.now) c.args.lists.now.items c.args.shelves.now c.requires.shelved c.requires.bare
+    begins_restoring (items_changed c.args.changes.now) c.args.lists.now.items c.args.shelves.now c.requires.shelved c.requires.bare
     c.requires.there
     (c.requires.long ∙ sym (as_many c.args.changes.now))
 

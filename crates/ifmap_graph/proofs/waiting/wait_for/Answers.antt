@@ -1,11 +1,11 @@
 use Rattle.std.proofs.Common.{arith}
 use Rattle.ifmap_graph.specs.Out.{items_changed}
 use Rattle.ifmap_graph.proofs.Accepting.{as_many, item_at}
-use Rattle.ifmap_graph.proofs.Waits.{has_place, is_few, waited_all, waiting, waits_on_more}
+use Rattle.ifmap_graph.proofs.Waits.{has_place, is_few, waited_all, begins_waiting, waits_on_more}
 use Rattle.ifmap_graph.proofs.waiting.wait_for.Goals as goal
 
 pub loop-change-init : goal.loop-change-init
-loop-change-init c = waiting (items_changed c.args.changes.now) c.args.shelves.now c.requires.shelved c.requires.there c.requires.few
+loop-change-init c = begins_waiting (items_changed c.args.changes.now) c.args.shelves.now c.requires.shelved c.requires.there c.requires.few
     c.requires.apart
 
 pub wait-requires : goal.wait-requires

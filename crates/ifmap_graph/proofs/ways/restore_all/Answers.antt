@@ -1,9 +1,9 @@
 use Rattle.std.proofs.Common.{[], arith}
-use Rattle.ifmap_graph.proofs.Returning.{all_returned, place_within, returning, returns_on}
+use Rattle.ifmap_graph.proofs.Returning.{all_returned, place_within, begins_returning, returns_on}
 use Rattle.ifmap_graph.proofs.ways.restore_all.Goals as goal
 
 pub loop-i-init : goal.loop-i-init
-loop-i-init g c = returning c.args.ways.now.items c.args.lists.now.items c.requires
+loop-i-init g c = begins_returning c.args.ways.now.items c.args.lists.now.items c.requires
 
 pub restore_at-requires-clause-place : goal.restore_at-requires-clause-place
 restore_at-requires-clause-place g c = omega (arith, c.loop-i-test.true, c.loop-i.invariant.long)

@@ -1,4 +1,4 @@
-use Rattle.ifmap_delta.specs.Sights.{view_seen}
+use Rattle.ifmap_delta.specs.SeenViews.{view_seen}
 use Rattle.ifmap_standing.proofs.Taking.{leads, room_keeps, would_keep}
 use Rattle.ifmap_standing.proofs.tell_changes.take_over.Goals as goal
 

@@ -1,5 +1,5 @@
 use Rattle.std.proofs.Common.{◌∙◌, refl, arith}
-use Rattle.ifmap_delta.specs.Sights.{view_seen}
+use Rattle.ifmap_delta.specs.SeenViews.{view_seen}
 use Rattle.ifmap_standing.proofs.Stages.{kept_end, kept_so_far, news_end, stage_first, stage_next, steps_all, steps_end, ways_failed}
 use Rattle.ifmap_standing.proofs.tell_changes.tell_all.Goals as goal
 

@@ -1,7 +1,7 @@
 use Rattle.std.proofs.Common.{◌∙◌, ◌<◌, ap, length, map, subst, sym, arith}
 use Rattle.ifmap_delta.specs.Changes.{ShowsAfter}
-use Rattle.ifmap_delta.specs.Sights.{view_seen}
-use Rattle.ifmap_delta.specs.Ways.{HasSameSearch}
+use Rattle.ifmap_delta.specs.SeenViews.{view_seen}
+use Rattle.ifmap_delta.specs.SameSearches.{HasSameSearch}
 use Rattle.std.specs.List.{AllByRecursion, zip}
 use Rattle.ifmap_ident.specs.Items.{IsCanonItem}
 use Rattle.ifmap_lemmas.specs.Results.{on_err}

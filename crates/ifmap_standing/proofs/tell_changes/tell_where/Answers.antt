@@ -1,6 +1,6 @@
 use Rattle.std.proofs.Common.{◌≡◌, refl, sym, subst}
 use Rattle.std.specs.Prelude.{IfOk}
-use Rattle.ifmap_delta.specs.Sights.{view_seen}
+use Rattle.ifmap_delta.specs.SeenViews.{view_seen}
 use Rattle.ifmap_standing.specs.Bounds.{IsWithinWhere}
 use Rattle.ifmap_standing.specs.News.{news_where}
 use Rattle.ifmap_standing.specs.Standing.{standing_of}

@@ -1,6 +1,6 @@
 use Rattle.std.proofs.Common.{◌≡◌, rules, [], length, arith}
 use Rattle.ifmap_standing.proofs.Places.{down_last, down_step}
-use Rattle.ifmap_standing.proofs.Undoing.{IsUndone, lead_at, undone}
+use Rattle.ifmap_standing.proofs.Undoing.{IsUndone, lead_at, leads_all_back}
 use Rattle.ifmap_standing.proofs.ways.take_change_back.Goals as goal
 
 pub take_back_one-requires : goal.take_back_one-requires
@@ -19,5 +19,5 @@ loop-way-preserved c =
 pub returns : goal.returns
 returns c = λ before leads.
     let none : c.loop-way.left.items ≡ [] = search rules
-    in undone c.args.ways c.args.standing.now c.loop-way.standing before
+    in leads_all_back c.args.ways c.args.standing.now c.loop-way.standing before
     (down_last IsUndone (λ x before k. k) c.args.ways c.args.standing.now c.loop-way.standing (rw none at c.loop-way.invariant)) leads

@@ -2,8 +2,8 @@ use Rattle.std.proofs.Common.{◌++◌, ◌∷◌, [], List, option_to_list}
 use Rattle.std.proofs.lemmas.Result.{on_err_weaker}
 use Rattle.std.specs.List.{AllByRecursion}
 use Rattle.ifmap_lemmas.specs.Outcomes.{of_three}
-use Rattle.ifmap_changes.specs.Between.{IsSteady, sight_now}
-use Rattle.ifmap_changes.specs.ifmap_delta.Sights.{IsUpToDate}
+use Rattle.ifmap_changes.specs.Between.{IsSteady, seen_now}
+use Rattle.ifmap_changes.specs.ifmap_delta.SeenViews.{IsUpToDate}
 use Rattle.ifmap_changes.specs.ifmap_standing.declared.standing.Standing.{Standing}
 use Rattle.ifmap_subscribes.proofs.Ready.{few_own, stand_more, stand_still, stays_ready}
 use Rattle.ifmap_changes.specs.ifmap_graph.Seen.{rows_now}
@@ -26,7 +26,7 @@ returns-clause-stand g c =
     let e = c.begin_name-begun.ensures in
     let wish = c.args.wish.now in
     of_three (BeginsName (rows_now p.graph) n wish.name.now wish.search.now)
-    (λ r. AllByRecursion (λ x. IsUpToDate (sight_now h) x.subscription) (option_to_list r.standing))
+    (λ r. AllByRecursion (λ x. IsUpToDate (seen_now h) x.subscription) (option_to_list r.standing))
     (λ r. (standing : List Standing) → IsSteady p.graph standing → IsSteady h (standing ++ option_to_list r.standing))
     (λ r. CanStand n (record p { graph = h }) (made ++ r ∷ [])) c.begin_name-begun.result e.begins e.kept e.steady
     (λ r begins k steady. stand_more c.same_links_keep_subscriptions.ensures n p h made c.is_view.ensures c.is_view-2.ensures e.holds

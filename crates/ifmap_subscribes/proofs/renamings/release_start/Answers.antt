@@ -1,4 +1,4 @@
-use Rattle.ifmap_changes.specs.Between.{sight_now}
+use Rattle.ifmap_changes.specs.Between.{seen_now}
 use Rattle.ifmap_subscribes.proofs.RenamingStarts.{can_release, links_same, released_steady, rows_same}
 use Rattle.ifmap_subscribes.proofs.renamings.release_start.Goals as goal
 use Rattle.ifmap_changes.specs.ifmap_graph.NumberLaws.{numbers_shared}
@@ -24,6 +24,6 @@ returns-clause-lets_go c =
       waits = c.release.ensures.waits;
       lean = c.release.ensures.lean;
       kept = λ sub key kept.
-          c.same_links_keep_subscriptions.ensures (sight_now c.args.graph.now) (sight_now c.release.new.self) sub c.is_view.ensures
+          c.same_links_keep_subscriptions.ensures (seen_now c.args.graph.now) (seen_now c.release.new.self) sub c.is_view.ensures
           c.is_view-2.ensures rows links (numbers_shared c.args.graph.now c.release.new.self c.release.ensures.numbers) key kept;
     }

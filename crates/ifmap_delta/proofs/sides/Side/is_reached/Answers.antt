@@ -1,5 +1,5 @@
 use Rattle.std.proofs.Common.{◌∙◌, ap, is_some}
-use Rattle.ifmap_delta.specs.Sights.{view_seen}
+use Rattle.ifmap_delta.specs.SeenViews.{view_seen}
 use Rattle.ifmap_delta.proofs.Marking.{reached_at_number, unreached_without_number}
 use Rattle.ifmap_delta.proofs.sides.Side.is_reached.Goals as goal
 
