@@ -19,7 +19,7 @@ use Rattle.ifmap_session.specs.LastMoments.{SetsLastMoment, no_moment}
 use Rattle.ifmap_session.proofs.RowLaws.{changed_in_row, empty_row, found_in_row, spare_found, spare_other, row_of}
 use Rattle.ifmap_session.specs.laws.TableLaws.{KeepsIdAndClient, renewed_keeps}
 use Rattle.ifmap_session.proofs.SessionLaws.{holders_changed, own_at, rows_changed}
-use Rattle.ifmap_session.proofs.LastMomentLaws.{moments_alike, moments_push, moments_set}
+use Rattle.ifmap_session.proofs.LastMomentLaws.{last_moment_is_set, last_moments_after_push, same_last_moments}
 
 pub kept_none : AreTied 0 [] [] 0 []
 unfolding IsStrictlySortedBy IsDistinct
@@ -112,7 +112,7 @@ module _ {counter : ℕ} {rows : List SessionRow} {holders : List Holder} {width
         power = k.moments.power;
         few = k.moments.few;
         within = rw (length-set rows place (row_of n b)) k.moments.within;
-        has_moments = moments_alike rows width place (row_of n a) (row_of n b) tree k.moments.has_moments e within
+        has_moments = same_last_moments rows width place (row_of n a) (row_of n b) tree k.moments.has_moments e within
             (ap (λ (s : Session). s.last) r.1.0 ∙ last a.session);
       })
 
@@ -135,7 +135,7 @@ module _ {counter : ℕ} {rows : List SessionRow} {holders : List Holder} {width
         power = k.moments.power;
         few = k.moments.few;
         within = rw (length-set rows place (row_of n b)) k.moments.within;
-        has_moments = moments_set rows width place moment (row_of n b) tree tree2 k.moments.has_moments within sets_moment
+        has_moments = last_moment_is_set rows width place moment (row_of n b) tree tree2 k.moments.has_moments within sets_moment
             (sym (ap (λ (s : Session). s.last) r.1.0));
       })
 
@@ -162,7 +162,7 @@ moments_ended n rows width tree tree2 place a m e sets_moment =
       power = m.power;
       few = m.few;
       within = rw (length-set rows place (empty_row n)) m.within;
-      has_moments = moments_set rows width place no_moment (empty_row n) tree tree2 m.has_moments within sets_moment refl;
+      has_moments = last_moment_is_set rows width place no_moment (empty_row n) tree tree2 m.has_moments within sets_moment refl;
     }
 
 -- one begins
@@ -179,7 +179,7 @@ moments_begun n rows width last_moment tree tree2 y m less sets_moment is = reco
   power = m.power;
   few = m.few;
   within = let l = push_length rows (row_of n y) in omega arith;
-  has_moments = moments_push rows width last_moment (row_of n y) tree tree2 m.has_moments sets_moment (sym is);
+  has_moments = last_moments_after_push rows width last_moment (row_of n y) tree tree2 m.has_moments sets_moment (sym is);
 }
 
 -- where a session is expired there is a row

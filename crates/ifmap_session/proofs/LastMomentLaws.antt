@@ -66,10 +66,10 @@ moments_end rows width place tree s all = λ p high. elim (cases_lt p place) [
   | inr more ↦ s.after p more high ∙ ap last_moment_in (sym (slice_get_past rows p (omega arith)))
 ]
 
-pub moments_set : (rows : List SessionRow) (width i last_moment : ℕ) (q : SessionRow) (old new : List ℕ) → HasLastMoments rows width old
+pub last_moment_is_set : (rows : List SessionRow) (width i last_moment : ℕ) (q : SessionRow) (old new : List ℕ) → HasLastMoments rows width old
     → i < length rows
     → SetsLastMoment width i last_moment old new → last_moment ≡ last_moment_of q → HasLastMoments (set rows i q) width new
-moments_set rows width i last_moment q old new s within r is = λ p high. elim (cases_lt p i) [
+last_moment_is_set rows width i last_moment q old new s within r is = λ p high. elim (cases_lt p i) [
   | inl less ↦ other p high (omega arith)
   | inr not_less ↦ elim (cases_lt i p) [
     | inl more ↦ other p high (omega arith)
@@ -82,9 +82,9 @@ moments_set rows width i last_moment q old new s within r is = λ p high. elim (
   other p high apart = keeps_last_moment width i last_moment p old new r high apart ∙ s p high ∙ ap last_moment_in
       (sym (written_elsewhere rows i p q apart))
 
-pub moments_push : (rows : List SessionRow) (width last_moment : ℕ) (q : SessionRow) (old new : List ℕ) → HasLastMoments rows width old
+pub last_moments_after_push : (rows : List SessionRow) (width last_moment : ℕ) (q : SessionRow) (old new : List ℕ) → HasLastMoments rows width old
     → SetsLastMoment width (length rows) last_moment old new → last_moment ≡ last_moment_of q → HasLastMoments (rows ++ q ∷ []) width new
-moments_push rows width last_moment q old new s r is = λ p high. elim (cases_lt p (length rows)) [
+last_moments_after_push rows width last_moment q old new s r is = λ p high. elim (cases_lt p (length rows)) [
   | inl less ↦ other p high (omega arith)
   | inr not_less ↦ elim (cases_lt (length rows) p) [
     | inl more ↦ other p high (omega arith)
@@ -98,10 +98,10 @@ moments_push rows width last_moment q old new s r is = λ p high. elim (cases_lt
       ∙ ap last_moment_in (sym (push_elsewhere rows q p apart))
 
 -- a row that changes and keeps its last moment
-pub moments_alike : (rows : List SessionRow) (width i : ℕ) (r q : SessionRow) (tree : List ℕ) → HasLastMoments rows width tree
+pub same_last_moments : (rows : List SessionRow) (width i : ℕ) (r q : SessionRow) (tree : List ℕ) → HasLastMoments rows width tree
     → slice_get rows i ≡ Some r
     → i < length rows → last_moment_of q ≡ last_moment_of r → HasLastMoments (set rows i q) width tree
-moments_alike rows width i r q tree s e within is = λ p high. elim (cases_lt p i) [
+same_last_moments rows width i r q tree s e within is = λ p high. elim (cases_lt p i) [
   | inl less ↦ s p high ∙ ap last_moment_in (sym (written_elsewhere rows i p q (omega arith)))
   | inr not_less ↦ elim (cases_lt i p) [
     | inl more ↦ s p high ∙ ap last_moment_in (sym (written_elsewhere rows i p q (omega arith)))
