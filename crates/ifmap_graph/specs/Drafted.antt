@@ -9,7 +9,7 @@ use Rattle.ifmap_ident.specs.Items.{item_order, same_item}
 use Rattle.ifmap_graph.specs.declared.ends.ItemEnds.{ItemEnds}
 use Rattle.ifmap_graph.specs.declared.shelves.Shelf.{Shelf}
 use Rattle.ifmap_graph.specs.declared.shelves.Shelves.{Shelves}
-use Rattle.ifmap_graph.specs.Shelved.{HasDraft}
+use Rattle.ifmap_graph.specs.Shelved.{AreShelved, HasDraft}
 use Rattle.ifmap_graph.specs.Waits.{waits_on}
 
 -- the numbers that the shelf of a slot has
@@ -40,3 +40,13 @@ pub record StayInPlace (old new : Shelves) : Type 0 where
   pub ends : (at : ℕ) → ends_at new at ≡ ends_at old at
   pub waits : (x : Item) → waits_on new x ≡ waits_on old x
   pub places : new.places ≡ old.places
+
+-- shelves stay in place, and are in order
+pub record StayShelved (old new : Shelves) : Type 0 where
+  pub shelved : AreShelved new
+  pub place : StayInPlace old new
+
+-- so they do, and none is left with a draft
+pub record AreLeftBare (old new : Shelves) : Type 0 where
+  pub stays : StayShelved old new
+  pub bare : AreBare new

@@ -7,7 +7,7 @@ ghost use Rattle.ifmap_ident.specs.Items.{item_order};
 ghost use Rattle.ifmap_plans.specs.Lists.{next_on};
 ghost use Rattle.ifmap_plans.specs.Plans.{Fits, IsAfter};
 ghost use Rattle.ifmap_view.specs.Rows.{stored_on};
-ghost use Rattle.ifmap_graph.specs.Drafted.{AreBare, AreOut, DraftsWithin, StayInPlace, ends_at};
+ghost use Rattle.ifmap_graph.specs.Drafted.{AreBare, AreLeftBare, AreOut, DraftsWithin, StayInPlace, StayShelved, ends_at};
 ghost use Rattle.ifmap_graph.specs.Making.{CanBeDrafted, HasAllDrafts, HasDrafts};
 ghost use Rattle.ifmap_graph.specs.Out.{items_changed};
 ghost use Rattle.ifmap_graph.specs.Shelved.{AreShelved, HasDraft, slot_of_item, rows_on_side};
@@ -30,7 +30,6 @@ use std::alloc::{AllocError as NoMemory, Global};
 fn draft_one(shelves: &mut Shelves, alloc: Global, change: &ItemChange) -> Result<(), NoMemory>
     requires shelved { AreShelved shelves.old }
     requires there { IsSome (slot_of_item shelves.old change.now.item) }
-    ensures shelved { AreShelved shelves.new }
     ensures now { rows_on_side list_now shelves.new ≡ rows_on_side list_now shelves.old }
     ensures next { OnOk result ((x : Item) → stored_on x (rows_on_side list_next shelves.new)
         ≡ (if is_at (item_order change.now.item) x
@@ -41,7 +40,7 @@ fn draft_one(shelves: &mut Shelves, alloc: Global, change: &ItemChange) -> Resul
         → HasDraft shelves.old x ⊎ (is_at (item_order change.now.item) x ≡ true) }
     ensures kept { (x : Item) → HasDraft shelves.old x → HasDraft shelves.new x }
     ensures drafted { OnOk result (HasDraft shelves.new change.now.item) }
-    ensures stays { StayInPlace shelves.old shelves.new }
+    ensures stays { StayShelved shelves.old shelves.new }
 {
     let list = shelves.make_next(alloc, change)?;
     shelves.propose(&change.item, list);
@@ -60,14 +59,13 @@ pub(crate) fn draft_changes(
     requires there { AllByRecursion (λ x. IsSome (slot_of_item shelves.old x))
         (items_changed changes.now) }
     requires fits { Fits (rows_on_side list_now shelves.old) changes.now }
-    ensures shelved { AreShelved shelves.new }
     ensures now { rows_on_side list_now shelves.new ≡ rows_on_side list_now shelves.old }
     ensures next { OnOk result
         (IsAfter changes.now (rows_on_side list_now shelves.old)
         (rows_on_side list_next shelves.new)) }
     ensures within { DraftsWithin (items_changed changes.now) shelves.new }
     ensures out { OnOk result (AreOut (items_changed changes.now) shelves.new) }
-    ensures stays { StayInPlace shelves.old shelves.new }
+    ensures stays { StayShelved shelves.old shelves.new }
 {
     for change in changes {
         draft_one(shelves, alloc, change)?;
@@ -134,13 +132,11 @@ pub(crate) fn drop_plan(
         (items_changed changes.now) }
     requires within { DraftsWithin (items_changed changes.now) shelves.old }
     requires ready { AreExactlyDrafted ways.now links.old.items }
-    ensures shelved { AreShelved shelves.new }
-    ensures bare { AreBare shelves.new }
     ensures now { rows_on_side list_now shelves.new ≡ rows_on_side list_now shelves.old }
     ensures next { rows_on_side list_next shelves.new ≡ rows_on_side list_now shelves.old }
     ensures links { KeepsLinks links.old.items links.new.items }
     ensures none { (v : ℕ) → (sides_at links.new.items v).draft ≡ None }
-    ensures stays { StayInPlace shelves.old shelves.new }
+    ensures left { AreLeftBare shelves.old shelves.new }
 {
     discard_changes(shelves, changes);
     drop_drafts(links, ways);

@@ -9,7 +9,7 @@ ghost use Rattle.ifmap_meta.specs.declared.stored.Stored.{Stored};
 ghost use Rattle.ifmap_plans.specs.Lists.{next_on};
 ghost use Rattle.ifmap_view.specs.Rows.{stored_on};
 ghost use Rattle.ifmap_graph.specs.declared.shelves.Shelf.{Shelf};
-ghost use Rattle.ifmap_graph.specs.Drafted.{AreBare, ends_at};
+ghost use Rattle.ifmap_graph.specs.Drafted.{AreBare, StayShelved, ends_at};
 ghost use Rattle.ifmap_graph.specs.Shelved.{AreShelved, HasDraft, HasNoDraft, slot_of_item, rows_on_side};
 ghost use Rattle.ifmap_graph.specs.Sides.{list_next, list_now};
 ghost use Rattle.ifmap_graph.specs.Waits.{WaitsFor, waits_on};
@@ -124,7 +124,6 @@ impl Shelves {
     pub fn propose(&mut self, item: &Item, list: Box<RowList>)
         requires shelved { AreShelved self.old }
         requires there { IsSome (slot_of_item self.old item.now) }
-        ensures shelved { AreShelved self.new }
         ensures now { rows_on_side list_now self.new ≡ rows_on_side list_now self.old }
         ensures next { (x : Item) → stored_on x (rows_on_side list_next self.new)
             ≡ (if is_at (item_order item.now) x then list.value
@@ -133,9 +132,7 @@ impl Shelves {
             → HasDraft self.old x ⊎ (is_at (item_order item.now) x ≡ true) }
         ensures kept { (x : Item) → HasDraft self.old x → HasDraft self.new x }
         ensures drafted { HasDraft self.new item.now }
-        ensures ends { (at : ℕ) → ends_at self.new at ≡ ends_at self.old at }
-        ensures waits { (x : Item) → waits_on self.new x ≡ waits_on self.old x }
-        ensures places { self.new.places ≡ self.old.places }
+        ensures stays { StayShelved self.old self.new }
     {
         let at = self.places[item];
         propose_at(&mut self.slots, at, list);
@@ -145,7 +142,6 @@ impl Shelves {
     pub fn accept(&mut self, item: &Item) -> RowList
         requires shelved { AreShelved self.old }
         requires drafted { HasDraft self.old item.now }
-        ensures shelved { AreShelved self.new }
         ensures next { rows_on_side list_next self.new ≡ rows_on_side list_next self.old }
         ensures now { (x : Item) → stored_on x (rows_on_side list_now self.new)
             ≡ stored_on x (if is_at (item_order item.now) x then rows_on_side list_next self.old
@@ -155,9 +151,7 @@ impl Shelves {
             → HasDraft self.old x × (is_at (item_order item.now) x ≡ false) }
         ensures kept { (x : Item) → is_at (item_order item.now) x ≡ false → HasDraft self.old x
             → HasDraft self.new x }
-        ensures ends { (at : ℕ) → ends_at self.new at ≡ ends_at self.old at }
-        ensures waits { (x : Item) → waits_on self.new x ≡ waits_on self.old x }
-        ensures places { self.new.places ≡ self.old.places }
+        ensures stays { StayShelved self.old self.new }
     {
         let at = self.places[item];
         accept_at(&mut self.slots, at)
@@ -167,16 +161,13 @@ impl Shelves {
     pub fn discard(&mut self, item: &Item)
         requires shelved { AreShelved self.old }
         requires there { IsSome (slot_of_item self.old item.now) }
-        ensures shelved { AreShelved self.new }
         ensures now { rows_on_side list_now self.new ≡ rows_on_side list_now self.old }
         ensures next { (x : Item) → stored_on x (rows_on_side list_next self.new)
             ≡ stored_on x (if is_at (item_order item.now) x then rows_on_side list_now self.old
             else rows_on_side list_next self.old) }
         ensures drafts { (x : Item) → HasDraft self.new x
             → HasDraft self.old x × (is_at (item_order item.now) x ≡ false) }
-        ensures ends { (at : ℕ) → ends_at self.new at ≡ ends_at self.old at }
-        ensures waits { (x : Item) → waits_on self.new x ≡ waits_on self.old x }
-        ensures places { self.new.places ≡ self.old.places }
+        ensures stays { StayShelved self.old self.new }
     {
         let at = self.places[item];
         discard_at(&mut self.slots, at);
@@ -222,7 +213,6 @@ impl Shelves {
     pub fn exchange(&mut self, item: &Item, list: &mut RowList)
         requires shelved { AreShelved self.old }
         requires drafted { HasNoDraft self.old item.now }
-        ensures shelved { AreShelved self.new }
         ensures now { (x : Item) → stored_on x (rows_on_side list_now self.new)
             ≡ (if is_at (item_order item.now) x then list.old
             else stored_on x (rows_on_side list_now self.old)) }
@@ -231,9 +221,7 @@ impl Shelves {
             else stored_on x (rows_on_side list_next self.old)) }
         ensures old { list.new ≡ stored_on item.now (rows_on_side list_now self.old) }
         ensures bare { AreBare self.old → AreBare self.new }
-        ensures ends { (at : ℕ) → ends_at self.new at ≡ ends_at self.old at }
-        ensures waits { (x : Item) → waits_on self.new x ≡ waits_on self.old x }
-        ensures places { self.new.places ≡ self.old.places }
+        ensures stays { StayShelved self.old self.new }
     {
         let at = self.places[item];
         exchange_at(&mut self.slots, at, list);

@@ -6,7 +6,7 @@ ghost use Rattle.ifmap_ident.specs.declared.items.Item.{Item};
 ghost use Rattle.ifmap_ident.specs.Items.{same_item};
 ghost use Rattle.ifmap_plans.specs.declared.plans.ItemChange.{ItemChange};
 ghost use Rattle.ifmap_view.specs.Rows.{stored_on};
-ghost use Rattle.ifmap_graph.specs.Drafted.{AreBare, AreOut, DraftsWithin, StayInPlace};
+ghost use Rattle.ifmap_graph.specs.Drafted.{AreLeftBare, AreOut, DraftsWithin, StayShelved};
 ghost use Rattle.ifmap_graph.specs.Out.{items_changed};
 ghost use Rattle.ifmap_graph.specs.Shelved.{AreShelved, HasDraft, slot_of_item, rows_on_side};
 ghost use Rattle.ifmap_graph.specs.Sides.{list_next, list_now};
@@ -20,7 +20,6 @@ use ifmap_plans::ItemChange;
 fn accept_one(shelves: &mut Shelves, item: &Item, list: &mut RowList)
     requires shelved { AreShelved shelves.old }
     requires drafted { HasDraft shelves.old item.now }
-    ensures shelved { AreShelved shelves.new }
     ensures next { rows_on_side list_next shelves.new ≡ rows_on_side list_next shelves.old }
     ensures list { list.new ≡ stored_on item.now (rows_on_side list_now shelves.old) }
     ensures drafts { (x : Item) → HasDraft shelves.new x
@@ -29,7 +28,7 @@ fn accept_one(shelves: &mut Shelves, item: &Item, list: &mut RowList)
         → (HasDraft shelves.old x → HasDraft shelves.new x)
         × (stored_on x (rows_on_side list_now shelves.new)
         ≡ stored_on x (rows_on_side list_now shelves.old)) }
-    ensures stays { StayInPlace shelves.old shelves.new }
+    ensures stays { StayShelved shelves.old shelves.new }
 {
     *list = shelves.accept(item);
 }
@@ -41,7 +40,6 @@ fn accept_at(shelves: &mut Shelves, changes: &[ItemChange], lists: &mut Vec<RowL
     requires room { i < length lists.old.items }
     requires drafted { (c : ItemChange)
         → HasDraft shelves.old (slice_index_or changes.now i c).item }
-    ensures shelved { AreShelved shelves.new }
     ensures next { rows_on_side list_next shelves.new ≡ rows_on_side list_next shelves.old }
     ensures lists { (c : ItemChange) → lists.new.items ≡ set lists.old.items i
         (stored_on (slice_index_or changes.now i c).item (rows_on_side list_now shelves.old)) }
@@ -52,7 +50,7 @@ fn accept_at(shelves: &mut Shelves, changes: &[ItemChange], lists: &mut Vec<RowL
         → (HasDraft shelves.old x → HasDraft shelves.new x)
         × (stored_on x (rows_on_side list_now shelves.new)
         ≡ stored_on x (rows_on_side list_now shelves.old)) }
-    ensures stays { StayInPlace shelves.old shelves.new }
+    ensures stays { StayShelved shelves.old shelves.new }
 {
     accept_one(shelves, &changes[i].item, &mut lists[i]);
 }
@@ -66,13 +64,11 @@ pub(crate) fn accept_changes(
     requires shelved { AreShelved shelves.old }
     requires out { AreOut (items_changed changes.now) shelves.old }
     requires long { length lists.old.items ≡ length changes.now }
-    ensures shelved { AreShelved shelves.new }
-    ensures bare { AreBare shelves.new }
     ensures next { rows_on_side list_next shelves.new ≡ rows_on_side list_next shelves.old }
     ensures now { rows_on_side list_now shelves.new ≡ rows_on_side list_next shelves.old }
     ensures lists { lists.new.items
         ≡ map (λ c. stored_on c.item (rows_on_side list_now shelves.old)) changes.now }
-    ensures stays { StayInPlace shelves.old shelves.new }
+    ensures left { AreLeftBare shelves.old shelves.new }
 {
     for i in 0..changes.len() {
         accept_at(shelves, changes, lists, i);
@@ -85,11 +81,10 @@ fn discard_at(shelves: &mut Shelves, changes: &[ItemChange], i: usize)
     requires place { i < length changes.now }
     requires there { (c : ItemChange)
         → IsSome (slot_of_item shelves.old (slice_index_or changes.now i c).item) }
-    ensures shelved { AreShelved shelves.new }
     ensures now { rows_on_side list_now shelves.new ≡ rows_on_side list_now shelves.old }
     ensures drafts { (c : ItemChange) (x : Item) → HasDraft shelves.new x
         → HasDraft shelves.old x × (same_item x (slice_index_or changes.now i c).item ≡ false) }
-    ensures stays { StayInPlace shelves.old shelves.new }
+    ensures stays { StayShelved shelves.old shelves.new }
 {
     shelves.discard(&changes[i].item);
 }
@@ -100,11 +95,9 @@ pub(crate) fn discard_changes(shelves: &mut Shelves, changes: &[ItemChange])
     requires there { AllByRecursion (λ x. IsSome (slot_of_item shelves.old x))
         (items_changed changes.now) }
     requires within { DraftsWithin (items_changed changes.now) shelves.old }
-    ensures shelved { AreShelved shelves.new }
-    ensures bare { AreBare shelves.new }
     ensures now { rows_on_side list_now shelves.new ≡ rows_on_side list_now shelves.old }
     ensures next { rows_on_side list_next shelves.new ≡ rows_on_side list_now shelves.old }
-    ensures stays { StayInPlace shelves.old shelves.new }
+    ensures left { AreLeftBare shelves.old shelves.new }
 {
     for i in 0..changes.len() {
         discard_at(shelves, changes, i);

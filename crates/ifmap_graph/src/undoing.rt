@@ -10,7 +10,7 @@ ghost use Rattle.ifmap_view.specs.declared.attachments.Attachment.{Attachment};
 ghost use Rattle.ifmap_view.specs.declared.views.LinkSeen.{LinkSeen};
 ghost use Rattle.ifmap_view.specs.Rows.{stored_on};
 ghost use Rattle.ifmap_graph.specs.Back.{IsUndoTo, stand_each};
-ghost use Rattle.ifmap_graph.specs.Drafted.{AreBare, StayInPlace};
+ghost use Rattle.ifmap_graph.specs.Drafted.{AreBare, AreLeftBare};
 ghost use Rattle.ifmap_graph.specs.Out.{items_changed};
 ghost use Rattle.ifmap_graph.specs.Seen.{IsDoneWith, IsStill, links_now, rows_now};
 ghost use Rattle.ifmap_graph.specs.Shelved.{AreShelved, slot_of_item, rows_on_side};
@@ -30,13 +30,11 @@ fn exchange_one(shelves: &mut Shelves, item: &Item, list: &mut RowList)
     requires shelved { AreShelved shelves.old }
     requires bare { AreBare shelves.old }
     requires there { IsSome (slot_of_item shelves.old item.now) }
-    ensures shelved { AreShelved shelves.new }
-    ensures bare { AreBare shelves.new }
     ensures now { (x : Item) → stored_on x (rows_on_side list_now shelves.new)
         ≡ (if is_at (item_order item.now) x then list.old
         else stored_on x (rows_on_side list_now shelves.old)) }
     ensures list { list.new ≡ stored_on item.now (rows_on_side list_now shelves.old) }
-    ensures stays { StayInPlace shelves.old shelves.new }
+    ensures left { AreLeftBare shelves.old shelves.new }
 {
     shelves.exchange(item, list);
 }
@@ -49,8 +47,6 @@ fn exchange_at(shelves: &mut Shelves, changes: &[ItemChange], lists: &mut Vec<Ro
     requires room { i < length lists.old.items }
     requires there { (c : ItemChange)
         → IsSome (slot_of_item shelves.old (slice_index_or changes.now i c).item) }
-    ensures shelved { AreShelved shelves.new }
-    ensures bare { AreBare shelves.new }
     ensures now { (c : ItemChange) (list : List Stored) (x : Item)
         → stored_on x (rows_on_side list_now shelves.new)
         ≡ (if is_at (item_order (slice_index_or changes.now i c).item) x
@@ -58,7 +54,7 @@ fn exchange_at(shelves: &mut Shelves, changes: &[ItemChange], lists: &mut Vec<Ro
         else stored_on x (rows_on_side list_now shelves.old)) }
     ensures lists { (c : ItemChange) → lists.new.items ≡ set lists.old.items i
         (stored_on (slice_index_or changes.now i c).item (rows_on_side list_now shelves.old)) }
-    ensures stays { StayInPlace shelves.old shelves.new }
+    ensures left { AreLeftBare shelves.old shelves.new }
 {
     exchange_one(shelves, &changes[i].item, &mut lists[i]);
 }
@@ -70,12 +66,10 @@ fn exchange_changes(shelves: &mut Shelves, changes: &[ItemChange], lists: &mut V
     requires there { AllByRecursion (λ x. IsSome (slot_of_item shelves.old x))
         (items_changed changes.now) }
     requires long { length lists.old.items ≡ length changes.now }
-    ensures shelved { AreShelved shelves.new }
-    ensures bare { AreBare shelves.new }
     ensures now { (x : Item) → stored_on x (rows_on_side list_now shelves.new)
         ≡ stand_each (items_changed changes.now) lists.old.items x
         (stored_on x (rows_on_side list_now shelves.old)) }
-    ensures stays { StayInPlace shelves.old shelves.new }
+    ensures left { AreLeftBare shelves.old shelves.new }
 {
     for i in 0..changes.len() {
         exchange_at(shelves, changes, lists, i);

@@ -18,10 +18,10 @@ pub loop-change-preserved : goal.loop-change-preserved
 loop-change-preserved c =
     drafts_on c.args.changes.now c.args.shelves.now c.loop-change.shelves c.loop-change.change-index c.loop-change-test.true
     c.change-item.result c.change-item.is
-    c.loop-change.invariant c.draft_one.new.shelves c.draft_one.ensures.shelved c.draft_one.ensures.now c.in_ok-draft_one.ensures.next
+    c.loop-change.invariant c.draft_one.new.shelves c.draft_one.ensures.stays.shelved c.draft_one.ensures.now c.in_ok-draft_one.ensures.next
     c.draft_one.ensures.drafts
-    c.draft_one.ensures.kept c.in_ok-draft_one.ensures.drafted c.draft_one.ensures.stays.ends c.draft_one.ensures.stays.waits
-    c.draft_one.ensures.stays.places
+    c.draft_one.ensures.kept c.in_ok-draft_one.ensures.drafted c.draft_one.ensures.stays.place.ends c.draft_one.ensures.stays.place.waits
+    c.draft_one.ensures.stays.place.places
 
 pub returns-clause-next : goal.returns-clause-next
 returns-clause-next c =
@@ -43,14 +43,20 @@ returns-in_err-draft_one-clause-within c =
 
 pub returns-clause-stays : goal.returns-clause-stays
 returns-clause-stays c = record {
-  ends = c.loop-change.invariant.ends;
-  waits = c.loop-change.invariant.waits;
-  places = c.loop-change.invariant.places;
+  shelved = c.loop-change.invariant.shelved;
+  place = record {
+    ends = c.loop-change.invariant.ends;
+    waits = c.loop-change.invariant.waits;
+    places = c.loop-change.invariant.places;
+  };
 }
 
 pub returns-in_err-draft_one-clause-stays : goal.returns-in_err-draft_one-clause-stays
 returns-in_err-draft_one-clause-stays c = record {
-  ends = λ at. c.draft_one.ensures.stays.ends at ∙ c.loop-change.invariant.ends at;
-  waits = λ x. c.draft_one.ensures.stays.waits x ∙ c.loop-change.invariant.waits x;
-  places = c.draft_one.ensures.stays.places ∙ c.loop-change.invariant.places;
+  shelved = c.draft_one.ensures.stays.shelved;
+  place = record {
+    ends = λ at. c.draft_one.ensures.stays.place.ends at ∙ c.loop-change.invariant.ends at;
+    waits = λ x. c.draft_one.ensures.stays.place.waits x ∙ c.loop-change.invariant.waits x;
+    places = c.draft_one.ensures.stays.place.places ∙ c.loop-change.invariant.places;
+  };
 }

@@ -11,16 +11,16 @@ draft_changes-requires-clause-shelved c = c.requires.inside.1.placed
 pub touch_slots-requires-clause-pairs : goal.touch_slots-requires-clause-pairs
 touch_slots-requires-clause-pairs c =
     pairs_after c.requires.inside.0 c.args.shelves.now c.draft_changes.new.shelves c.args.links.now.items c.requires.inside.1
-    c.draft_changes.ensures.shelved
-    c.draft_changes.ensures.stays.places c.draft_changes.ensures.stays.ends
+    c.draft_changes.ensures.stays.shelved
+    c.draft_changes.ensures.stays.place.places c.draft_changes.ensures.stays.place.ends
 
 pub returns-clause-all : goal.returns-clause-all
 returns-clause-all c =
     on_ok_weaker c.touch_slots.result
     (λ drafts. record {
       inside = λ names is. inside_drafted names c.args.shelves.now c.draft_changes.new.shelves c.args.links.now.items
-          c.touch_slots.new.links.items is c.draft_changes.ensures.shelved c.draft_changes.ensures.stays.places
-          c.draft_changes.ensures.stays.ends c.draft_changes.ensures.now c.args.changes.now c.requires.fits
+          c.touch_slots.new.links.items is c.draft_changes.ensures.stays.shelved c.draft_changes.ensures.stays.place.places
+          c.draft_changes.ensures.stays.place.ends c.draft_changes.ensures.now c.args.changes.now c.requires.fits
           c.in_ok-draft_changes.ensures.next c.in_ok-draft_changes.ensures.out c.touch_slots.ensures.kept
           (λ v. drafts v
           ∙ ap (λ (l : List ℕ). draft_of c.draft_changes.new.shelves.slots l v (sides_at c.args.links.now.items v).now)

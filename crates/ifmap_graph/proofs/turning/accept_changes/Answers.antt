@@ -30,22 +30,28 @@ loop-i-preserved c =
     (get_or c.args.changes.now c.loop-i.i d).item
     (omega (arith, within, as_many c.args.changes.now)) (here_changed c.args.changes.now c.loop-i.i d
     within) c.loop-i.invariant
-    c.accept_at.new.lists.items c.accept_at.new.shelves c.accept_at.ensures.shelved c.accept_at.ensures.next (c.accept_at.ensures.drafts d)
-    (c.accept_at.ensures.others d) c.accept_at.ensures.stays.ends c.accept_at.ensures.stays.waits c.accept_at.ensures.stays.places
+    c.accept_at.new.lists.items c.accept_at.new.shelves c.accept_at.ensures.stays.shelved c.accept_at.ensures.next
+    (c.accept_at.ensures.drafts d)
+    (c.accept_at.ensures.others d) c.accept_at.ensures.stays.place.ends c.accept_at.ensures.stays.place.waits
+    c.accept_at.ensures.stays.place.places
     (c.accept_at.ensures.lists d)
 
 pub returns : goal.returns
 returns c =
     let done : length (items_changed c.args.changes.now) ≤ c.loop-i.i = omega (arith, c.loop-i-test.false, as_many c.args.changes.now)
     in record {
-      shelved = c.loop-i.invariant.shelved;
-      bare = accepted_bare (items_changed c.args.changes.now) c.args.shelves.now c.loop-i.lists.items c.loop-i.shelves c.loop-i.i done
-          c.loop-i.invariant;
       next = c.loop-i.invariant.same;
       now = accepted_now (items_changed c.args.changes.now) c.args.shelves.now c.loop-i.lists.items c.loop-i.shelves c.loop-i.i done
           c.loop-i.invariant;
       lists = accepted_lists (items_changed c.args.changes.now) c.args.shelves.now c.loop-i.lists.items c.loop-i.shelves c.loop-i.i done
           c.loop-i.invariant
           ∙ map-map (stored_at c.args.shelves.now) (λ (x : ItemChange). x.item) c.args.changes.now;
-      stays = record { ends = c.loop-i.invariant.ends; waits = c.loop-i.invariant.waits; places = c.loop-i.invariant.places };
+      left = record {
+        stays = record {
+          shelved = c.loop-i.invariant.shelved;
+          place = record { ends = c.loop-i.invariant.ends; waits = c.loop-i.invariant.waits; places = c.loop-i.invariant.places };
+        };
+        bare = accepted_bare (items_changed c.args.changes.now) c.args.shelves.now c.loop-i.lists.items c.loop-i.shelves c.loop-i.i done
+            c.loop-i.invariant;
+      };
     }

@@ -22,6 +22,3 @@ returns-clause-others c = λ x f.
           ∙ ap (λ b. stored_on x (cond b (rows_on_side list_next c.args.shelves.now) (rows_on_side list_now c.args.shelves.now)))
           g,
     )
-
-pub returns-clause-stays : goal.returns-clause-stays
-returns-clause-stays c = record { ends = c.accept.ensures.ends; waits = c.accept.ensures.waits; places = c.accept.ensures.places }

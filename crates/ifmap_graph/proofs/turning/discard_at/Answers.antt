@@ -17,6 +17,3 @@ returns-clause-drafts c = λ d x h.
           c.requires.place)
           (sym (ties (get_or c.args.changes.now c.args.i c.index-changes-i.result).item x) ∙ p.1),
     )
-
-pub returns-clause-stays : goal.returns-clause-stays
-returns-clause-stays c = record { ends = c.discard.ensures.ends; waits = c.discard.ensures.waits; places = c.discard.ensures.places }

@@ -22,17 +22,21 @@ loop-i-preserved c =
     (get_or c.args.changes.now c.loop-i.i d).item
     (omega (arith, within, as_many c.args.changes.now)) (here_changed c.args.changes.now c.loop-i.i d
     within) c.loop-i.invariant
-    c.discard_at.new.shelves c.discard_at.ensures.shelved c.discard_at.ensures.now (c.discard_at.ensures.drafts d)
-    c.discard_at.ensures.stays.ends
-    c.discard_at.ensures.stays.waits c.discard_at.ensures.stays.places
+    c.discard_at.new.shelves c.discard_at.ensures.stays.shelved c.discard_at.ensures.now (c.discard_at.ensures.drafts d)
+    c.discard_at.ensures.stays.place.ends
+    c.discard_at.ensures.stays.place.waits c.discard_at.ensures.stays.place.places
 
 pub returns : goal.returns
 returns c =
     let done : length (items_changed c.args.changes.now) ≤ c.loop-i.i = omega (arith, c.loop-i-test.false, as_many c.args.changes.now)
     in record {
-      shelved = c.loop-i.invariant.shelved;
-      bare = discarded_bare (items_changed c.args.changes.now) c.args.shelves.now c.loop-i.shelves c.loop-i.i done c.loop-i.invariant;
       now = c.loop-i.invariant.same;
       next = discarded_next (items_changed c.args.changes.now) c.args.shelves.now c.loop-i.shelves c.loop-i.i done c.loop-i.invariant;
-      stays = record { ends = c.loop-i.invariant.ends; waits = c.loop-i.invariant.waits; places = c.loop-i.invariant.places };
+      left = record {
+        stays = record {
+          shelved = c.loop-i.invariant.shelved;
+          place = record { ends = c.loop-i.invariant.ends; waits = c.loop-i.invariant.waits; places = c.loop-i.invariant.places };
+        };
+        bare = discarded_bare (items_changed c.args.changes.now) c.args.shelves.now c.loop-i.shelves c.loop-i.i done c.loop-i.invariant;
+      };
     }

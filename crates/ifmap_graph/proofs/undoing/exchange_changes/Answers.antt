@@ -30,9 +30,9 @@ loop-i-preserved c =
     (get_or c.args.changes.now c.loop-i.i d).item (omega (arith, within, as_many c.args.changes.now))
     (here_changed c.args.changes.now c.loop-i.i d within) c.loop-i.invariant
     c.exchange_at.new.lists.items c.exchange_at.new.shelves [] (stored_at c.loop-i.shelves (get_or c.args.changes.now c.loop-i.i d).item)
-    c.exchange_at.ensures.shelved c.exchange_at.ensures.bare (c.exchange_at.ensures.now d [])
-    (c.exchange_at.ensures.lists d) c.exchange_at.ensures.stays.ends
-    c.exchange_at.ensures.stays.waits c.exchange_at.ensures.stays.places
+    c.exchange_at.ensures.left.stays.shelved c.exchange_at.ensures.left.bare (c.exchange_at.ensures.now d [])
+    (c.exchange_at.ensures.lists d) c.exchange_at.ensures.left.stays.place.ends
+    c.exchange_at.ensures.left.stays.place.waits c.exchange_at.ensures.left.stays.place.places
 
 pub returns-clause-now : goal.returns-clause-now
 returns-clause-now c =
@@ -40,5 +40,13 @@ returns-clause-now c =
     c.loop-i.i
     (omega (arith, c.loop-i-test.false, as_many c.args.changes.now)) c.loop-i.invariant
 
-pub returns-clause-stays : goal.returns-clause-stays
-returns-clause-stays c = record { ends = c.loop-i.invariant.ends; waits = c.loop-i.invariant.waits; places = c.loop-i.invariant.places }
+pub returns-clause-left : goal.returns-clause-left
+returns-clause-left c =
+    let is = c.loop-i.invariant
+    in record {
+      stays = record {
+        shelved = is.shelved;
+        place = record { ends = is.ends; waits = is.waits; places = is.places };
+      };
+      bare = is.bare;
+    }

@@ -21,9 +21,9 @@ calls_make_change c =
     let q = rw (← c.self.view_is) at c.requires
     in record {
       is = c.self.invariant;
-      later = c.accept_changes.ensures.shelved;
-      bare = c.accept_changes.ensures.bare;
-      stay = c.accept_changes.ensures.stays;
+      later = c.accept_changes.ensures.left.stays.shelved;
+      bare = c.accept_changes.ensures.left.bare;
+      stay = c.accept_changes.ensures.left.stays.place;
       rows = c.accept_changes.ensures.now;
       same = c.accept_changes.ensures.next;
       out = are_out c.self.inside.shelves (items_changed c.args.ready.plan.changes) q.drafted q.within q.apart;

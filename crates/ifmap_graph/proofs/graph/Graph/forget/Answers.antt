@@ -53,8 +53,8 @@ pub invariant_of-self : goal.invariant_of-self
 invariant_of-self c =
     inside_dropped c.self.inside.names c.self.inside.shelves c.drop_plan.new.shelves c.self.inside.links.items c.drop_plan.new.links.items
     c.self.invariant
-    c.drop_plan.ensures.shelved c.drop_plan.ensures.stays.places c.drop_plan.ensures.stays.ends c.drop_plan.ensures.now
-    c.drop_plan.ensures.next
+    c.drop_plan.ensures.left.stays.shelved c.drop_plan.ensures.left.stays.place.places c.drop_plan.ensures.left.stays.place.ends
+    c.drop_plan.ensures.now c.drop_plan.ensures.next
     c.drop_plan.ensures.links
     c.drop_plan.ensures.none
 
@@ -62,11 +62,11 @@ pub release_waits-requires : goal.release_waits-requires
 release_waits-requires c =
     let w = rw (← c.self.view_is) at c.requires.waits
     in record {
-      still = bare_to c.self.inside.names c.drop_plan.new.shelves c.drop_plan.new.links.items c.drop_plan.ensures.bare
+      still = bare_to c.self.inside.names c.drop_plan.new.shelves c.drop_plan.new.links.items c.drop_plan.ensures.left.bare
           c.drop_plan.ensures.none;
       waits = subst (λ l. AreAwaited (items_changed l) (inside_of c.self.inside.names c.drop_plan.new.shelves c.drop_plan.new.links.items))
           (sym (same_changes (goal.at.release_waits-requires c).After-as_slice-3))
-          (waits_stay_seen c.self.inside.names c.self.inside.links.items c.drop_plan.new.links.items c.drop_plan.ensures.stays
+          (waits_stay_seen c.self.inside.names c.self.inside.links.items c.drop_plan.new.links.items c.drop_plan.ensures.left.stays.place
           (items_changed c.args.ready.plan.changes) w);
     }
 
@@ -74,7 +74,7 @@ pub returns-clause-now : goal.returns-clause-now
 returns-clause-now c =
     rw (← c.self.view_is)
     (c.release_waits.ensures.now
-    ∙ written_now c.self.inside.names c.drop_plan.ensures.stays c.drop_plan.ensures.now c.drop_plan.ensures.links)
+    ∙ written_now c.self.inside.names c.drop_plan.ensures.left.stays.place c.drop_plan.ensures.now c.drop_plan.ensures.links)
 
 pub returns-clause-links : goal.returns-clause-links
 returns-clause-links c =
@@ -90,17 +90,20 @@ returns-clause-done c =
       still = last.still;
       numbers = last.numbers;
       own = λ a own h. last.own a own
-          (own_stays c.self.inside.names c.self.inside.links.items c.drop_plan.new.links.items c.drop_plan.ensures.stays a own h);
+          (own_stays c.self.inside.names c.self.inside.links.items c.drop_plan.new.links.items c.drop_plan.ensures.left.stays.place a own
+          h);
       waits = λ rest a. last.waits rest
           (subst
-          (λ l. AreAwaited (items_changed l ++ rest) (inside_of c.self.inside.names c.drop_plan.new.shelves c.drop_plan.new.links.items)) same
-          (waits_stay_seen c.self.inside.names c.self.inside.links.items c.drop_plan.new.links.items c.drop_plan.ensures.stays _ a));
+          (λ l. AreAwaited (items_changed l ++ rest) (inside_of c.self.inside.names c.drop_plan.new.shelves c.drop_plan.new.links.items))
+          same
+          (waits_stay_seen c.self.inside.names c.self.inside.links.items c.drop_plan.new.links.items c.drop_plan.ensures.left.stays.place
+          _ a));
       lean = λ rest lean. last.lean rest
           (subst (λ l. IsLean (items_changed l ++ rest) (inside_of c.self.inside.names c.drop_plan.new.shelves c.drop_plan.new.links.items))
           same
           (same_lean c.self.inside.names c.self.inside.names c.self.inside.shelves c.drop_plan.new.shelves c.self.inside.links.items
-          c.drop_plan.new.links.items c.drop_plan.ensures.stays.waits
-          (λ x none. ap (λ p. lookup (is_at (item_order x)) p.entries) c.drop_plan.ensures.stays.places)
+          c.drop_plan.new.links.items c.drop_plan.ensures.left.stays.place.waits
+          (λ x none. ap (λ p. lookup (is_at (item_order x)) p.entries) c.drop_plan.ensures.left.stays.place.places)
           (λ x none. ap (stored_on x) c.drop_plan.ensures.now) _ lean));
     })
 
@@ -109,8 +112,9 @@ returns-clause-backs c =
     rw (← c.self.view_is)
     (first_backs (items_changed c.args.ready.plan.changes) (inside_of c.self.inside.names c.self.inside.shelves c.self.inside.links.items)
     (inside_of c.self.inside.names c.drop_plan.new.shelves c.drop_plan.new.links.items) c.release_waits.new.self
-    (λ rest a. waits_stay_seen c.self.inside.names c.self.inside.links.items c.drop_plan.new.links.items c.drop_plan.ensures.stays rest a)
-    (written_backs c.self.inside.names c.drop_plan.ensures.stays c.drop_plan.ensures.now c.drop_plan.ensures.links)
+    (λ rest a. waits_stay_seen c.self.inside.names c.self.inside.links.items c.drop_plan.new.links.items
+    c.drop_plan.ensures.left.stays.place rest a)
+    (written_backs c.self.inside.names c.drop_plan.ensures.left.stays.place c.drop_plan.ensures.now c.drop_plan.ensures.links)
     (subst (λ l. KeepsOtherBacks (items_changed l)
     (inside_of c.self.inside.names c.drop_plan.new.shelves c.drop_plan.new.links.items) c.release_waits.new.self)
     (same_changes (goal.at.returns-clause-backs c).After-as_slice-3) c.release_waits.ensures.backs))

@@ -19,9 +19,9 @@ goes : (c : After-restore_all) → GoesBack c.self.inside.names c.self.inside.sh
 goes c =
     let still = rw (← c.self.view_is) at c.requires.still
     in record {
-      stay = c.exchange_changes.ensures.stays;
+      stay = c.exchange_changes.ensures.left.stays.place;
       is = c.self.invariant;
-      bare = c.exchange_changes.ensures.bare;
+      bare = c.exchange_changes.ensures.left.bare;
       none = still.links;
       stands = λ x. c.exchange_changes.ensures.now x
           ∙ ap (λ l. stand_each (items_changed l) c.lists.inside.0.items x (stored_on x (rows_on_side list_now c.self.inside.shelves)))

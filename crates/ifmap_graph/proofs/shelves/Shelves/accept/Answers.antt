@@ -23,13 +23,13 @@ returns c =
     c.index-at.result.now c.index-at.ensures (λ s. record s { stored = record { now = list_next s.stored; draft = None } })
     c.accept_at.ensures.slots
     in record {
-      shelved = is_shelved w;
       next = side_stays w list_next refl;
       now = comes w list_now list_next refl;
       old = c.accept_at.ensures.old w.was w.had ∙ stood_on w list_now c.args.item.now (ap is_eq (tied_itself items_total c.args.item.now));
       drafts = drafts_left w refl;
       kept = drafts_kept w;
-      ends = ends_stay w refl;
-      waits = waits_stay w refl;
-      places = refl;
+      stays = record {
+        shelved = is_shelved w;
+        place = record { ends = ends_stay w refl; waits = waits_stay w refl; places = refl };
+      };
     }

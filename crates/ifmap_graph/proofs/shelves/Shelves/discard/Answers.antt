@@ -15,11 +15,11 @@ returns c =
     let w : Write = write_of c.args.self.now.slots c.discard_at.new.slots c.args.self.now.places.entries c.requires.shelved c.args.item.now
     c.index-at.result.now c.index-at.ensures (λ s. record s { stored = record s.stored { draft = None } }) c.discard_at.ensures
     in record {
-      shelved = is_shelved w;
       now = side_stays w list_now refl;
       next = comes w list_next list_now refl;
       drafts = drafts_left w refl;
-      ends = ends_stay w refl;
-      waits = waits_stay w refl;
-      places = refl;
+      stays = record {
+        shelved = is_shelved w;
+        place = record { ends = ends_stay w refl; waits = waits_stay w refl; places = refl };
+      };
     }

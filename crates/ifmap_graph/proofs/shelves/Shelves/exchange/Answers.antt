@@ -26,14 +26,14 @@ returns c =
     in let same : w.at ≡ c.requires.drafted.0 = same_Some _ _ (sym w.here ∙ c.requires.drafted.2)
     in let shelf : w.was ≡ c.requires.drafted.1 = same_Some _ _ (sym w.had ∙ ap (get w.slots) same ∙ c.requires.drafted.3)
     in record {
-      shelved = is_shelved w;
       now = shows w list_now c.args.list.now refl;
       next = shows w list_next c.args.list.now
           (ap (λ o. unwrap_or o c.args.list.now) (ap (λ (s : Shelf). s.stored.draft) shelf ∙ c.requires.drafted.4));
       old = c.exchange_at.ensures.old w.was w.had ∙ stood_on w list_now c.args.item.now
           (ap is_eq (tied_itself items_total c.args.item.now));
       bare = bare_stays w refl;
-      ends = ends_stay w refl;
-      waits = waits_stay w refl;
-      places = refl;
+      stays = record {
+        shelved = is_shelved w;
+        place = record { ends = ends_stay w refl; waits = waits_stay w refl; places = refl };
+      };
     }

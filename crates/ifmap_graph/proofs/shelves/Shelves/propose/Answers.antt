@@ -17,13 +17,13 @@ returns c =
     c.index-at.result.now c.index-at.ensures (λ s. record s { stored = record s.stored { draft = Some c.args.list.value } })
     c.propose_at.ensures
     in record {
-      shelved = is_shelved w;
       now = side_stays w list_now refl;
       next = shows w list_next c.args.list.value refl;
       drafts = drafts_come w;
       kept = drafts_there w refl;
       drafted = draft_there w refl;
-      ends = ends_stay w refl;
-      waits = waits_stay w refl;
-      places = refl;
+      stays = record {
+        shelved = is_shelved w;
+        place = record { ends = ends_stay w refl; waits = waits_stay w refl; places = refl };
+      };
     }
