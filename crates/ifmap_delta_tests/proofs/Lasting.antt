@@ -36,7 +36,9 @@ use Rattle.ifmap_requests.specs.declared.publish_ops.PublishOp.TheVariants.{Dele
 use Rattle.ifmap_view.specs.declared.attachments.Attachment.{Attachment}
 use Rattle.ifmap_view.specs.Rows.{stored_on}
 use Rattle.ifmap_view.specs.Views.{IsView}
-use Rattle.ifmap_delta_tests.specs.Worlds.{IsQuiet, IsUnderWay, ShowsSame, seen_next, seen_now}
+use Rattle.ifmap_changes.specs.Between.{seen_now}
+use Rattle.ifmap_changes.specs.Changes.{seen_next}
+use Rattle.ifmap_delta_tests.specs.Worlds.{IsQuiet, IsUnderWay, ShowsSame}
 use Rattle.ifmap_ident.specs.SameLaws.{item_itself}
 use Rattle.ifmap_graph.specs.NumberLaws.{once_few}
 

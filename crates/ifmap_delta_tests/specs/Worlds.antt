@@ -2,6 +2,8 @@
 use Rattle.std.specs.Prelude.{◌≡◌, ℕ, List, IsSome}
 use Rattle.std.specs.List.{AllByRecursion}
 use Rattle.ifmap_ident.specs.Items.{IsCanonItem}
+use Rattle.ifmap_changes.specs.Between.{seen_now}
+use Rattle.ifmap_changes.specs.Changes.{seen_next}
 use Rattle.ifmap_delta.specs.Changes.{ShowsAfter, WouldKeep}
 use Rattle.ifmap_delta.specs.SeenViews.{ViewSeen}
 use Rattle.ifmap_delta.specs.declared.subscriptions.Moved.{Moved}
@@ -9,22 +11,14 @@ use Rattle.ifmap_delta.specs.declared.subscriptions.Subscription.{Subscription}
 use Rattle.ifmap_graph.specs.declared.changes.Ready.{Ready}
 use Rattle.ifmap_graph.specs.Inside.{GraphInside}
 use Rattle.ifmap_graph.specs.Out.{IsOut}
-use Rattle.ifmap_graph.specs.Seen.{HasFewOwn, IsStill, KeepsNumbers, links_next, links_now, rows_next, rows_now}
+use Rattle.ifmap_graph.specs.Seen.{HasFewOwn, IsStill, KeepsNumbers, links_now, rows_next, rows_now}
 use Rattle.ifmap_plans.specs.Plans.{AreWhole, Fits, IsAfter}
 use Rattle.ifmap_plans.specs.declared.plans.Note.{Note}
 use Rattle.ifmap_plans.specs.declared.plans.Plan.{Plan}
-use Rattle.ifmap_graph.specs.ifmap_pool.Holdings.{key_at}
 use Rattle.ifmap_region.specs.Marks.{row_of}
 use Rattle.ifmap_region.specs.Ways.{HasRoom}
 use Rattle.ifmap_view.specs.Views.{IsView}
 use Rattle.ifmap_view.specs.declared.attachments.Attachment.{Attachment}
-
--- what a graph shows, and what it is to show
-abbrev pub seen_now : GraphInside → ViewSeen
-seen_now h = record { rows = rows_now h; id_at = key_at h.names; links = links_now h }
-
-abbrev pub seen_next : GraphInside → ViewSeen
-seen_next h = record { rows = rows_next h; id_at = key_at h.names; links = links_next h }
 
 abbrev pub IsWorldSeen : ViewSeen → Type 0
 IsWorldSeen g = IsView g.rows g.id_at g.links

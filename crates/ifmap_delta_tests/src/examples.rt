@@ -3,7 +3,9 @@
 ghost use Rattle.std.specs.Prelude.{IfOk};
 ghost use Rattle.std.specs.List.{AllByRecursion};
 ghost use Rattle.ifmap_delta.specs.SeenViews.{HasMarks, IsUpToDate};
-ghost use Rattle.ifmap_delta_tests.specs.Worlds.{IsQuiet, IsWorldSeen, IsStepOut, seen_next, seen_now};
+ghost use Rattle.ifmap_changes.specs.Between.{seen_now};
+ghost use Rattle.ifmap_changes.specs.Changes.{seen_next};
+ghost use Rattle.ifmap_delta_tests.specs.Worlds.{IsQuiet, IsWorldSeen, IsStepOut};
 ghost use Rattle.ifmap_ident.specs.Items.{IsCanonItem};
 
 use crate::faults::{Fault, fault_unless};

@@ -1,7 +1,8 @@
 //! Small graphs with random publishes: what each change tells, and its ways back.
 ghost use Rattle.std.specs.Prelude.{◌≡◌, IfOk, OnOk};
 ghost use Rattle.ifmap_delta.specs.SeenViews.{IsUpToDate};
-ghost use Rattle.ifmap_delta_tests.specs.Worlds.{IsQuiet, IsStepOut, KeepsRows, seen_now};
+ghost use Rattle.ifmap_changes.specs.Between.{seen_now};
+ghost use Rattle.ifmap_delta_tests.specs.Worlds.{IsQuiet, IsStepOut, KeepsRows};
 ghost use Rattle.ifmap_region.specs.Ways.{HasRoom};
 
 use crate::comparing::{Snapshot, has_bare_row, is_as_in, take_snapshot};

@@ -1,4 +1,4 @@
-use Rattle.ifmap_delta_tests.specs.Worlds.{seen_next}
+use Rattle.ifmap_changes.specs.Changes.{seen_next}
 use Rattle.ifmap_delta_tests.proofs.examples.check_step.Goals as goal
 
 pub check_notes-requires-clause-marks : goal.check_notes-requires-clause-marks

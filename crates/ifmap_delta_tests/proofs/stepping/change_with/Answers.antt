@@ -2,7 +2,9 @@ use Rattle.std.proofs.Common.{subst, sym}
 use Rattle.ifmap_delta.specs.Changes.{ShowsAfter, WouldKeep}
 use Rattle.ifmap_graph.specs.Inside.{GraphInside}
 use Rattle.ifmap_plans.specs.declared.plans.Plan.{Plan}
-use Rattle.ifmap_delta_tests.specs.Worlds.{IsWorldSeen, seen_next, seen_now}
+use Rattle.ifmap_changes.specs.Between.{seen_now}
+use Rattle.ifmap_changes.specs.Changes.{seen_next}
+use Rattle.ifmap_delta_tests.specs.Worlds.{IsWorldSeen}
 use Rattle.ifmap_delta_tests.proofs.stepping.change_with.Goals as goal
 
 pub change-requires-clause-planned : goal.change-requires-clause-planned

@@ -1,4 +1,4 @@
-use Rattle.ifmap_delta_tests.specs.Worlds.{seen_next}
+use Rattle.ifmap_changes.specs.Changes.{seen_next}
 use Rattle.ifmap_delta_tests.proofs.Lasting.{kept_made, quiet_made}
 use Rattle.ifmap_delta_tests.proofs.stepping.make_step.Goals as goal
 

@@ -1,4 +1,4 @@
-use Rattle.ifmap_delta_tests.specs.Worlds.{seen_next}
+use Rattle.ifmap_changes.specs.Changes.{seen_next}
 use Rattle.ifmap_delta_tests.proofs.stepping.prepare_change.Goals as goal
 
 pub returns-clause-keeps : goal.returns-clause-keeps
