@@ -1,7 +1,7 @@
 -- A change that is out is made, or given up, once subscriptions were told of it.
 -- First what the calls said of the parts, as of those before (`IsOutAndTold`), and that its items are waited for (`awaits_told`). Then what
--- is seen once it is made (`Commits`), and each clause of a change that was made: what stays whole and steady (`steady_made`), what was
--- turned (`turned_made`), the way back (`back_made`), what is told (`told_made`) and what is ready (`ready_made`, `bare_made`). Last,
+-- is seen once it is made (`Commits`), and each clause of a change that was made: what stays whole and steady (`steady_made`), that
+-- the parts are later ones (`later_made`), the way back (`back_made`), what is told (`told_made`) and what is ready (`ready_made`, `bare_made`). Last,
 -- what stands once it is given up (`Forgets`, `given_up`).
 use Rattle.std.proofs.Common.{◌≡◌, ◌≢◌, ℕ, Option, List, [], ◌++◌, map, ap, ◌∙◌, sym, subst}
 use Rattle.std.proofs.lemmas.Option.{same_Some}
@@ -127,8 +127,8 @@ module _ {ready : Ready} {wanted : Plan} {old mid to : Parts} (out : IsOutAndTol
   lean_made rest l = subst (λ (p : Plan). IsLean (items_changed p.changes ++ rest) g) (sym commits_wanted.same)
       (commits_wanted.lean (awaits_out out) (items_changed wanted.changes ++ rest) (out.begun.lean rest l))
 
-  pub turned_made : AreLaterPartsWith (items_changed undo.plan.changes) old new
-  turned_made = record {
+  pub later_made : AreLaterPartsWith (items_changed undo.plan.changes) old new
+  later_made = record {
     waits = λ rest w. subst (λ (p : Plan). AreAwaited (items_changed p.changes ++ rest) g) (sym commits_wanted.same)
         (commits_wanted.waits (items_changed wanted.changes ++ rest) (out.begun.waits rest w));
     lean = lean_made;

@@ -146,7 +146,7 @@ pub record IsSoundSoFar (a : Asking) (parts : Parts) (pending : Pending) : Type 
   -- who is told one error in place of all has no subscription left
   pub alone : AloneAreBare pending.tellings pending.gone.items parts.standing.items
 
--- parts were turned, and these items came to be out: what was waited for is still, nothing is left behind, and sessions and searches are
+-- parts are later ones, and these items came to be out: what was waited for is still, nothing is left behind, and sessions and searches are
 -- what they were
 pub record AreLaterPartsWith (items : List Item) (old new : Parts) : Type 0 where
   pub waits : AwaitsMore items old.graph new.graph
@@ -159,11 +159,11 @@ abbrev pub AreLaterParts : Parts → Parts → Type 0
 AreLaterParts = AreLaterPartsWith []
 
 -- a change was made while an event is answered, and these items came to be out: the graph is steady, what is so far is sound, and the
--- parts were turned
+-- parts are later ones
 pub record AreChangedWith (items : List Item) (a : Asking) (old new : Parts) (after : Pending) : Type 0 where
   pub steady : IsSteady new.graph new.standing.items
   pub ready : IsSoundSoFar a new after
-  pub turned : AreLaterPartsWith items old new
+  pub later : AreLaterPartsWith items old new
 
 -- the same where none came to be
 abbrev pub AreChanged : Asking → Parts → Parts → Pending → Type 0

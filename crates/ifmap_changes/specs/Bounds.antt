@@ -15,7 +15,7 @@ use Rattle.ifmap_graph.specs.ifmap_view.Attachments.{IsGraph}
 use Rattle.ifmap_graph.specs.ifmap_view.Views.{IsView}
 
 -- these attachments before a change and those after it, seen with one numbering of identifiers
-pub record AreSights (first last : List Attachment) (old new : ViewSeen) : Type 0 where
+pub record AreSeenViews (first last : List Attachment) (old new : ViewSeen) : Type 0 where
   pub before : IsView old.rows old.id_at old.links
   pub after : IsView new.rows new.id_at new.links
   pub rows : old.rows ≡ first
@@ -38,7 +38,7 @@ module _ (old new : ViewSeen) where
 abbrev pub IsToldWithin : List Attachment → State → ℕ → ℕ → Type 0
 IsToldWithin next state before after =
     (after ≤ before)
-    ⊎ ((old : ViewSeen) × (new : ViewSeen) × AreSights state.graph next old new × IsWithinAll old new state.standing before after)
+    ⊎ ((old : ViewSeen) × (new : ViewSeen) × AreSeenViews state.graph next old new × IsWithinAll old new state.standing before after)
 
 -- the same of a change by a plan, whatever attachments it makes of those that are there
 abbrev pub IsPlanWithin : Plan → State → ℕ → ℕ → Type 0

@@ -24,7 +24,7 @@ use Rattle.ifmap_core.specs.declared.completions.Completion.TheVariants.{Say, Ac
 use Rattle.ifmap_core.proofs.Ended.{without_none}
 use Rattle.ifmap_core.proofs.Places.{all_are_kept, kept_both}
 use Rattle.ifmap_core.proofs.Told.{none_told}
-use Rattle.ifmap_core.proofs.Turned.{all_there, shares_later}
+use Rattle.ifmap_core.proofs.LaterParts.{all_there, shares_later}
 use Rattle.ifmap_subscribes.specs.ifmap_delta.SeenViews.{IsUpToDate}
 use Rattle.ifmap_subscribes.specs.ifmap_delta.SameSearches.{HasSameSearch}
 use Rattle.ifmap_subscribes.specs.ifmap_graph.Out.{items_changed}

@@ -4,7 +4,7 @@ pub mod Exits
 pub mod Owned
 pub mod Places
 pub mod Told
-pub mod Turned
+pub mod LaterParts
 pub mod Taking
 pub mod Steady
 pub mod Releasing

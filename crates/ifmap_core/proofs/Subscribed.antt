@@ -1,7 +1,7 @@
 -- A subscribe that was made ready: its names are to be renamed, or one error takes the place of all.
 -- First what stays ready (`ready_there`, `ready_room`), and what is so far (`same_so_far`). Then the session's limit (`told_live`). Then an
 -- completion that renames (`leads_renamed`): no queue is greater than its limit, so that nothing overflows. Then one error in place of all
--- (`overruns`). Last, what holds once operations were made ready, and what they lead to (`holds_turns`, `holds_leads`).
+-- (`overruns`). Last, what holds once operations were made ready, and what they lead to (`holds_later_or_kept`, `holds_leads`).
 use Rattle.std.proofs.Common.{◌≡◌, sym, ◌∙◌, ap, subst, ℕ, ◌+◌, ◌<◌, ◌≤◌, ◌==◌, Bool, true, false, not, List, [], ◌∷◌, length, map, Option, Some, None, Result, Ok, Err, inl, inr, arith}
 use Rattle.ifmap_subscribes.specs.ifmap_tellings.KeptPlaces.{all_left}
 use Rattle.std.proofs.lemmas.Bool.{cases_Bool}
@@ -16,14 +16,14 @@ use Rattle.std.specs.Prelude.{vec_capacity, vec_len}
 use Rattle.std.specs.declared.cmp.Ordering.TheVariants.{Less}
 use Rattle.ifmap_subscribes.specs.ifmap_changes.Between.{AreKept, AreLaterParts, AreWithinLimits, Asking, IsSoundSoFar, IsSteady, IsWithinLimit, sessions_left, seen_now, state_now}
 use Rattle.ifmap_subscribes.specs.ifmap_changes.declared.parts.Parts.{Parts}
-use Rattle.ifmap_core.specs.Answering.{TurnsOrKeeps}
+use Rattle.ifmap_core.specs.Answering.{AreLaterOrKept}
 use Rattle.ifmap_core.specs.Completions.{CanRename, LeadsToAnswer, after_completion, state_with_error, rename_in}
 use Rattle.ifmap_core.specs.declared.completions.Completion.TheVariants.{Rename}
 use Rattle.ifmap_core.proofs.Ended.{rising_left}
 use Rattle.ifmap_core.proofs.Overrun.{Grows, IsFit, changed_within, grows_rising, no_overflow, others_renamed, over_is}
 use Rattle.ifmap_core.proofs.Places.{all_are_kept, kept_both, searched_itself}
 use Rattle.ifmap_core.proofs.Told.{before_told, one_numbered, told_by_leaves, told_rising}
-use Rattle.ifmap_core.proofs.Turned.{shares_later, turned_twice}
+use Rattle.ifmap_core.proofs.LaterParts.{shares_later, later_twice}
 use Rattle.ifmap_subscribes.specs.ifmap_delta.SeenViews.{IsUpToDate}
 use Rattle.ifmap_subscribes.specs.ifmap_delta.SameSearches.{HasSameSearch}
 use Rattle.ifmap_subscribes.specs.ifmap_graph.Seen.{rows_now}
@@ -81,8 +81,8 @@ ready_there a old new pending sessions standing there steady r =
       alone = rw standing r.alone;
     }
 
-holds_turned : (old new : Parts) → OnlyHolds old new → AreLaterParts old new
-holds_turned old new h = record {
+holds_later : (old new : Parts) → OnlyHolds old new → AreLaterParts old new
+holds_later old new h = record {
   waits = h.waits;
   lean = h.lean;
   searches = subst (λ xs. AtEach (λ _. StaysRelated HasSameSearch) old.standing.items xs)
@@ -319,10 +319,10 @@ holds_kept old mid new h k = record {
 }
 
 -- what only holds, and then turns or keeps the parts, does so from the start
-pub holds_turns : {X E : Type 0} (r : Result X E) (old mid new : Parts) → OnlyHolds old mid → TurnsOrKeeps r mid new
-    → TurnsOrKeeps r old new
-holds_turns (Ok x) old mid new h c = record { turned = turned_twice old mid new (holds_turned old mid h) c.turned; kept = tt }
-holds_turns (Err e) old mid new h c = record { turned = tt; kept = holds_kept old mid new h c.kept }
+pub holds_later_or_kept : {X E : Type 0} (r : Result X E) (old mid new : Parts) → OnlyHolds old mid → AreLaterOrKept r mid new
+    → AreLaterOrKept r old new
+holds_later_or_kept (Ok x) old mid new h c = record { later = later_twice old mid new (holds_later old mid h) c.later; kept = tt }
+holds_later_or_kept (Err e) old mid new h c = record { later = tt; kept = holds_kept old mid new h c.kept }
 
 pub holds_so_far : (a : Asking) (old new : Parts) (pending : Pending) → OnlyHolds old new → state_now a new pending
     ≡ state_now a old pending

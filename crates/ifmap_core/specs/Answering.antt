@@ -16,9 +16,9 @@ pub record CanAnswer (a : Asking) (parts : Parts) (pending : Pending) : Type 0 w
   pub steady : IsSteady parts.graph parts.standing.items
   pub ready : IsSoundSoFar a parts pending
 
--- the parts were turned, or after an error they are kept
-pub record TurnsOrKeeps {X E : Type 0} (result : Result X E) (old new : Parts) : Type 0 where
-  pub turned : OnOk result (AreLaterParts old new)
+-- the parts are later ones, or after an error they are kept
+pub record AreLaterOrKept {X E : Type 0} (result : Result X E) (old new : Parts) : Type 0 where
+  pub later : OnOk result (AreLaterParts old new)
   pub kept : OnErr result (AreKept old new)
 
 -- a completion, if there is one, can be applied and leads to that state and answer

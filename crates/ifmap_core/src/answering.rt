@@ -3,7 +3,7 @@ ghost use Rattle.std.specs.Prelude.{◌≡◌, ◌∷◌, [], IfOk};
 ghost use Rattle.std.specs.List.{AllByRecursion};
 ghost use Rattle.ifmap_subscribes.specs.ifmap_changes.Between.{state_now};
 ghost use Rattle.ifmap_subscribes.specs.ifmap_changes.Bounds.{IsEndedWithin, IsTakenWithin, IsToldWithin};
-ghost use Rattle.ifmap_core.specs.Answering.{CanAnswer, GivesCase, GivesCompletion, IsCaseWithin, TurnsOrKeeps};
+ghost use Rattle.ifmap_core.specs.Answering.{CanAnswer, GivesCase, GivesCompletion, IsCaseWithin, AreLaterOrKept};
 ghost use Rattle.ifmap_core.specs.Bounds.{IsAskWithin, IsWithinIf};
 ghost use Rattle.ifmap_core.specs.declared.completions.Completion.TheVariants.{Say};
 ghost use Rattle.ifmap_core.specs.Completions.{end_of_poll};
@@ -52,7 +52,7 @@ pub(crate) fn answer<L: Ledger>(
     requires client { asking.now.client ≡ event.now.client }
     ensures leads { GivesCompletion result asking.now parts.new pending.new
         (step_ask (state_now asking.now parts.old pending.old) event.now event.now.ask) }
-    ensures change { TurnsOrKeeps result parts.old parts.new }
+    ensures change { AreLaterOrKept result parts.old parts.new }
     ensures steps { IsAskWithin (state_now asking.now parts.old pending.old) event.now
         event.now.ask steps.old steps.new }
 {
@@ -131,7 +131,7 @@ fn lose<L: Ledger>(
     ensures leads { let before = state_now asking.now parts.old pending.old in
         GivesCompletion result asking.now parts.new pending.new
         (lose before asking.now.client (session_with_id id.now before.sessions)) }
-    ensures change { TurnsOrKeeps result parts.old parts.new }
+    ensures change { AreLaterOrKept result parts.old parts.new }
     ensures steps { IsCaseWithin id.now (λ before s. IsEndedWithin (s.serial ∷ []) before)
         asking.now parts.old pending.old steps.old steps.new }
 {
@@ -157,7 +157,7 @@ fn end_session<L: Ledger>(
     requires { CanAnswer asking.now parts.old pending.old }
     ensures leads { GivesCase result id.now end_session asking.now
         parts.old pending.old parts.new pending.new }
-    ensures change { TurnsOrKeeps result parts.old parts.new }
+    ensures change { AreLaterOrKept result parts.old parts.new }
     ensures steps { IsCaseWithin id.now (λ before s. IsEndedWithin (s.serial ∷ []) before)
         asking.now parts.old pending.old steps.old steps.new }
 {
@@ -185,7 +185,7 @@ fn publish<L: Ledger>(
     ensures leads { GivesCase result wish.now.id.now
         (λ before. publish before wish.now.asked.now) asking.now
         parts.old pending.old parts.new pending.new }
-    ensures change { TurnsOrKeeps result parts.old parts.new }
+    ensures change { AreLaterOrKept result parts.old parts.new }
     ensures steps { IsCaseWithin wish.now.id.now (λ before s.
         IsToldWithin (apply before.graph (author_in before s) wish.now.asked.now) before)
         asking.now parts.old pending.old steps.old steps.new }
@@ -217,7 +217,7 @@ fn purge<L: Ledger>(
     ensures leads { GivesCase result wish.now.id.now
         (λ before. purge before wish.now.asked.now) asking.now
         parts.old pending.old parts.new pending.new }
-    ensures change { TurnsOrKeeps result parts.old parts.new }
+    ensures change { AreLaterOrKept result parts.old parts.new }
     ensures steps { IsCaseWithin wish.now.id.now (λ before s.
         IsWithinIf (is_same_text wish.now.asked.now s.client)
         (IsTakenWithin (Publisher wish.now.asked.now) before))
@@ -283,7 +283,7 @@ fn subscribe<L: Ledger>(
     ensures leads { GivesCase result wish.now.id.now
         (λ before. subscribe before wish.now.asked.now) asking.now
         parts.old pending.old parts.new pending.new }
-    ensures change { TurnsOrKeeps result parts.old parts.new }
+    ensures change { AreLaterOrKept result parts.old parts.new }
     ensures steps { IsCaseWithin wish.now.id.now
         (λ before s. AreOpsWithin before.graph wish.now.asked.now)
         asking.now parts.old pending.old steps.old steps.new }

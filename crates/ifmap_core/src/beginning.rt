@@ -4,7 +4,7 @@ ghost use Rattle.std.specs.Bool.{OnFalse};
 ghost use Rattle.ifmap_subscribes.specs.ifmap_changes.Between.{AreChanged, AreKept, CanEnd, HasNoSubscriptions, sessions_left, state_now};
 ghost use Rattle.ifmap_subscribes.specs.ifmap_changes.declared.parts.Parts.{Parts};
 ghost use Rattle.ifmap_subscribes.specs.ifmap_tellings.declared.tellings.Pending.{Pending};
-ghost use Rattle.ifmap_core.specs.Answering.{CanAnswer, GivesCompletion, TurnsOrKeeps};
+ghost use Rattle.ifmap_core.specs.Answering.{CanAnswer, GivesCompletion, AreLaterOrKept};
 ghost use Rattle.ifmap_core.specs.Bounds.{IsBegunWithin, IsFormerWithin};
 ghost use Rattle.ifmap_core.specs.Completions.{take_former};
 ghost use Rattle.ifmap_subscribes.specs.ifmap_machine.Step.{is_full, new_session};
@@ -40,7 +40,7 @@ pub(crate) fn new_session<L: Ledger>(
     ensures leads { let before = state_now asking.now parts.old pending.old in
         GivesCompletion result asking.now parts.new pending.new
         (new_session before asking.now.client wish.random wish.limit) }
-    ensures change { TurnsOrKeeps result parts.old parts.new }
+    ensures change { AreLaterOrKept result parts.old parts.new }
     ensures steps { IsBegunWithin (state_now asking.now parts.old pending.old) asking.now.client
         steps.old steps.new }
 {
@@ -106,7 +106,7 @@ fn begin<L: Ledger>(
     ensures leads { let before = state_now asking.now parts.old pending.old in
         GivesCompletion result asking.now parts.new pending.new
         (new_session before asking.now.client wish.random wish.limit) }
-    ensures change { TurnsOrKeeps result parts.old parts.new }
+    ensures change { AreLaterOrKept result parts.old parts.new }
     ensures steps { let before = state_now asking.now parts.old pending.old in
         IsFormerWithin (option_map (λ s. s.serial)
         (session_of_client asking.now.client before.sessions)) before steps.old steps.new }

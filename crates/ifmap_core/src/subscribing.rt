@@ -4,7 +4,7 @@ ghost use Rattle.std.specs.BTreeMap.{get};
 ghost use Rattle.std.specs.List.{AllByRecursion};
 ghost use Rattle.std.specs.Ordering.{nat_cmp};
 ghost use Rattle.ifmap_subscribes.specs.ifmap_changes.Between.{AreKept, AreLaterParts, IsSoundSoFar, IsSteady, sessions_left, state_now};
-ghost use Rattle.ifmap_core.specs.Answering.{CanAnswer, GivesCompletion, TurnsOrKeeps};
+ghost use Rattle.ifmap_core.specs.Answering.{CanAnswer, GivesCompletion, AreLaterOrKept};
 ghost use Rattle.ifmap_core.specs.Completions.{state_with_error};
 ghost use Rattle.ifmap_core.specs.Subscribing.{AcceptsReady, AreReadyIn};
 ghost use Rattle.ifmap_subscribes.specs.ifmap_graph.Seen.{rows_now};
@@ -53,7 +53,7 @@ pub(crate) fn subscribe_in<L: Ledger>(
         → GivesCompletion result asking.now parts.new pending.new
         (answer_subscribed before s (subscribe_ops before.graph ops.now.serial ops.now.ops.now
         (record { queue = s.queue; standing = before.standing }))) }
-    ensures change { TurnsOrKeeps result parts.old parts.new }
+    ensures change { AreLaterOrKept result parts.old parts.new }
     ensures steps { AreOpsWithin (rows_now parts.old.graph) ops.now.ops.now steps.old steps.new }
 {
     let scene = Occasion {
@@ -81,7 +81,7 @@ fn accept_ops(
     requires { AreReadyIn serial readying asking.now parts.old pending.old }
     ensures leads { AcceptsReady result serial readying asking.now parts.old pending.old
         parts.new pending.new }
-    ensures change { TurnsOrKeeps result parts.old parts.new }
+    ensures change { AreLaterOrKept result parts.old parts.new }
 {
     parts.sessions.is_table();
     let (_size, limit) = parts.sessions.queue_size(serial);
@@ -105,7 +105,7 @@ fn rename_ready(
         → readying.size ≤ s.limit }
     ensures leads { AcceptsReady result serial readying asking.now parts.old pending.now
         parts.new pending.now }
-    ensures change { TurnsOrKeeps result parts.old parts.new }
+    ensures change { AreLaterOrKept result parts.old parts.new }
 {
     parts.sessions.is_table();
     let Readying { made, .. } = readying;
@@ -136,7 +136,7 @@ fn overrun(
         → s.limit < readying.size }
     ensures leads { AcceptsReady result serial readying asking.now parts.old pending.old
         parts.new pending.new }
-    ensures change { TurnsOrKeeps result parts.old parts.new }
+    ensures change { AreLaterOrKept result parts.old parts.new }
 {
     parts.sessions.is_table();
     let Readying { made, size, .. } = readying;
@@ -188,7 +188,7 @@ fn let_go(parts: &mut Parts, pending: &Pending, asking: &Asking, made: Many<Rena
     ensures ready { IsSoundSoFar asking.now parts.new pending.now }
     ensures state_now { state_now asking.now parts.new pending.now
         ≡ state_now asking.now parts.old pending.now }
-    ensures turned { AreLaterParts parts.old parts.new }
+    ensures later { AreLaterParts parts.old parts.new }
     ensures kept { AreKept parts.old parts.new }
     ensures sessions { parts.new.sessions ≡ parts.old.sessions }
     ensures standing { parts.new.standing ≡ parts.old.standing }

@@ -29,7 +29,7 @@ fn event_of(alloc: Global, name: &str, inner: &str) -> Result<Event, NoMemory> {
 // How many entries an answer has, where it tells what a search found.
 fn entries_of(answer: Answer) -> usize {
     match answer {
-        Answer::Reply(Reply::Found(entries)) => entries.0.len(),
+        Answer::Reply(Reply::Found(entries)) => entries.len(),
         _ => 0,
     }
 }

@@ -61,7 +61,7 @@ fn take_apart(standing: Standing) -> (u64, usize, u64, u64, u32, usize) {
         max_depth,
         marks,
     } = region;
-    (serial, name.0.len(), size, start, max_depth, marks.len())
+    (serial, name.len(), size, start, max_depth, marks.len())
 }
 
 // How many subscriptions stand beside a graph and sessions.

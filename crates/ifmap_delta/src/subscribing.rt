@@ -67,8 +67,8 @@ fn region_of<V: View, L: Ledger>(
     requires identifier { IsIdentifier search.now.start }
     requires start { V.id_at view.now start ≡ Some search.now.start }
     ensures start { IfOk result (λ region. region.start ≡ start) }
-    ensures marks { let sight = view_seen V.rows V.id_at V.links view.now in
-        IfOk result (λ region. AreMarks sight search.now region.start region.max_depth
+    ensures marks { let seen = view_seen V.rows V.id_at V.links view.now in
+        IfOk result (λ region. AreMarks seen search.now region.start region.max_depth
         (mark_of region.marks.entries)) }
     ensures rows { IfOk result (λ region. AllMarked region.marks.entries) }
     ensures steps { IsWithin (λ v. length (V.links view.now v))

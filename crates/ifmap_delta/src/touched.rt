@@ -36,8 +36,8 @@ fn add_along<V: View, L: Ledger>(
     steps: &mut Steps<L>,
 ) -> Result<(), NoMemory>
     requires { i < length (V.links links.now.view.now number) }
-    ensures items { let sight = view_seen V.rows V.id_at V.links links.now.view.now in
-        OnOk result (items.new.items ≡ items.old.items ++ cons_option (link_item sight
+    ensures items { let seen = view_seen V.rows V.id_at V.links links.now.view.now in
+        OnOk result (items.new.items ≡ items.old.items ++ cons_option (link_item seen
         links.now.search.now number (slice_get (V.links links.now.view.now number) i)) []) }
     ensures step { steps.new ≡ steps.old + 1 }
 {
@@ -58,8 +58,8 @@ fn add_linked<V: View, L: Ledger>(
     items: &mut Vec<Item>,
     steps: &mut Steps<L>,
 ) -> Result<(), NoMemory>
-    ensures items { let sight = view_seen V.rows V.id_at V.links links.now.view.now in
-        OnOk result (items.new.items ≡ items.old.items ++ linked_items sight links.now.search.now
+    ensures items { let seen = view_seen V.rows V.id_at V.links links.now.view.now in
+        OnOk result (items.new.items ≡ items.old.items ++ linked_items seen links.now.search.now
         number) }
     ensures steps { steps.new ≤ steps.old + length (V.links links.now.view.now number) }
 {
@@ -133,13 +133,13 @@ fn add_brought<D: View, L: Ledger>(
     items: &mut Vec<Item>,
     steps: &mut Steps<L>,
 ) -> Result<(), NoMemory>
-    ensures items { let sight = view_seen D.rows D.id_at D.links side.now.view.now in
+    ensures items { let seen = view_seen D.rows D.id_at D.links side.now.view.now in
         let mark = mark_of side.now.marks.now.marks.entries in
-        OnOk result (items.new.items ≡ items.old.items ++ brought_items sight side.now.search.now
+        OnOk result (items.new.items ≡ items.old.items ++ brought_items seen side.now.search.now
         number (mark number) (mark_over patch.now mark number)) }
-    ensures steps { let sight = view_seen D.rows D.id_at D.links side.now.view.now in
+    ensures steps { let seen = view_seen D.rows D.id_at D.links side.now.view.now in
         let mark = mark_of side.now.marks.now.marks.entries in
-        steps.new ≤ steps.old + looked_along sight side.now.search.now number (mark number)
+        steps.new ≤ steps.old + looked_along seen side.now.search.now number (mark number)
         (mark_over patch.now mark number) }
 {
     let was = side.marks.mark(number);
@@ -161,13 +161,13 @@ fn add_moved<D: View, L: Ledger>(
     items: &mut Vec<Item>,
     steps: &mut Steps<L>,
 ) -> Result<(), NoMemory>
-    ensures items { let sight = view_seen D.rows D.id_at D.links side.now.view.now in
+    ensures items { let seen = view_seen D.rows D.id_at D.links side.now.view.now in
         let mark = mark_of side.now.marks.now.marks.entries in
-        OnOk result (items.new.items ≡ items.old.items ++ moved_items sight side.now.search.now mark
+        OnOk result (items.new.items ≡ items.old.items ++ moved_items seen side.now.search.now mark
         (mark_over patch.now mark) (numbers_of patch.now)) }
-    ensures steps { let sight = view_seen D.rows D.id_at D.links side.now.view.now in
+    ensures steps { let seen = view_seen D.rows D.id_at D.links side.now.view.now in
         let mark = mark_of side.now.marks.now.marks.entries in
-        steps.new ≤ steps.old + sum_by (λ v. looked_along sight side.now.search.now v (mark v)
+        steps.new ≤ steps.old + sum_by (λ v. looked_along seen side.now.search.now v (mark v)
         (mark_over patch.now mark v)) (numbers_of patch.now) }
     ensures apart { IsDistinct nat_eq (numbers_of patch.now) }
 {
@@ -210,8 +210,8 @@ pub(crate) fn touched_items<G: View, D: View, L: Ledger>(
     ensures touched { IfOk result (λ items. AreTouched
         (view_seen G.rows G.id_at G.links before.now.view.now)
         (view_seen D.rows D.id_at D.links after.now.view.now) after.now.search.now items.items) }
-    ensures steps { let sight = view_seen D.rows D.id_at D.links after.now.view.now in
-        steps.new ≤ steps.old + sum_by (λ v. looked_along sight after.now.search.now v
+    ensures steps { let seen = view_seen D.rows D.id_at D.links after.now.view.now in
+        steps.new ≤ steps.old + sum_by (λ v. looked_along seen after.now.search.now v
         (mark_of after.now.marks.now.region.now.marks.entries v)
         (patched_mark after.now.marks.now v))
         (numbers_of after.now.marks.now.patch.now) }

@@ -148,7 +148,7 @@ fn kind_of(answer: Answer) -> AnswerKind {
             Reply::Renewed => AnswerKind::Renewed,
             Reply::Ended => AnswerKind::Ended,
             Reply::Published => AnswerKind::Published,
-            Reply::Found(entries) => AnswerKind::Found(entries.0.len()),
+            Reply::Found(entries) => AnswerKind::Found(entries.len()),
             Reply::Error { .. } => AnswerKind::Refused,
             _ => AnswerKind::Other,
         },

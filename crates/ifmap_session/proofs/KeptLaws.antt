@@ -1,6 +1,6 @@
 -- All that is kept, as calls change it.
--- First: the session of one row changes (`one_row_changes`), in its queue alone (`kept_queue`) or in its last moment, which sets
--- its last moment (`kept_renewed`). Then: what holds of the last moments as a session ends (`moments_ended`) or begins (`moments_begun`).
+-- First: the session of one row changes (`one_row_changes`), in its queue alone (`kept_queue`) or in its last moment too
+-- (`kept_renewed`). Then: what holds of the last moments as a session ends (`moments_ended`) or begins (`moments_begun`).
 use Rattle.std.proofs.Common.{◌≡◌, ◌≢◌, refl, sym, ◌∙◌, ap, ℕ, suc, ◌<◌, ◌≤◌, ◌==◌, List, [], ◌∷◌, ◌++◌, length, set, Some, inl, arith}
 use Rattle.std.proofs.lemmas.List.{length-set}
 use Rattle.std.proofs.lemmas.Option.{slice_get_within}

@@ -195,7 +195,7 @@ fn drop_empty(rows: &mut Vec<SessionRow>)
     rows.retain(|row| row.kept.is_some());
 }
 
-// Last moments each row with the last moment of its session.
+// Sets the last moment of each row to that of its session.
 fn set_row_moments(last_moments: &mut Vec<u64>, width: usize, rows: &[SessionRow])
     requires tree { IsTree width last_moments.old.items }
     requires blank { (node : ℕ) → width ≤ node → node < 2 * width

@@ -27,13 +27,13 @@ returns-clause-changed g c =
       steady = subst (IsSteady new.graph) (append-nil new.standing.items) (c.settle_made.ensures.steady []
           (subst (IsSteady mid.graph) (sym (append-nil mid.standing.items)) made.steady));
       ready = c.settle_made.ensures.ready c.args.asking.now c.make_kept.new.pending made.ready;
-      turned = record {
-        waits = λ rest w. c.settle_made.ensures.waits rest (made.turned.waits rest w);
-        lean = λ rest l. c.settle_made.ensures.lean rest (made.turned.lean rest l);
-        searches = searched_twice c.args.parts.now.standing.items mid.standing.items new.standing.items made.turned.searches
+      later = record {
+        waits = λ rest w. c.settle_made.ensures.waits rest (made.later.waits rest w);
+        lean = λ rest l. c.settle_made.ensures.lean rest (made.later.lean rest l);
+        searches = searched_twice c.args.parts.now.standing.items mid.standing.items new.standing.items made.later.searches
             settled.searches;
         sessions = subst (λ (t : SessionTable). HasSameSessions c.args.parts.now.sessions t) (sym settled.sessions)
-            made.turned.sessions;
+            made.later.sessions;
       };
     }
 

@@ -3,7 +3,7 @@ use Rattle.ifmap_changes.specs.Between.{state_now}
 use Rattle.ifmap_changes.specs.Bounds.{IsPlanWithin}
 use Rattle.ifmap_changes.proofs.Begun.{IsOutAndTold, ready_out}
 use Rattle.ifmap_changes.proofs.Exits.{no_plan}
-use Rattle.ifmap_changes.proofs.Making.{Commits, awaits_told, back_made, bare_made, given_up, numbers_made, ready_made, steady_made, told_made, turned_made}
+use Rattle.ifmap_changes.proofs.Making.{Commits, awaits_told, back_made, bare_made, given_up, numbers_made, ready_made, steady_made, told_made, later_made}
 use Rattle.ifmap_changes.proofs.Spending.{told_within}
 use Rattle.ifmap_changes.proofs.changes.make_kept.Given as given
 use Rattle.ifmap_changes.proofs.changes.make_kept.Goals as goal
@@ -65,7 +65,7 @@ returns-in-Ok g c =
         changed = record {
           steady = steady_made (out g place) made can.steady can.fits;
           ready = ready_made (out g place) made links can.steady can.ready told;
-          turned = turned_made (out g place) made;
+          later = later_made (out g place) made;
         };
         back = back_made (out g place) made c.in-Ok.ways c.in-Ok.ensures.ways;
         numbers = numbers_made (out g place) made;

@@ -6,7 +6,7 @@ pub returns-in_ok-take_away_one-in-Own-clause-leads : goal.returns-in_ok-take_aw
 returns-in_ok-take_away_one-in-Own-clause-leads g c =
     let e = c.in_ok-take_away_one-in-Own.ensures in
     ends_own c.requires c.args.id.now c.in-Own.serial c.in-Own.ensures c.take_away_one.new.parts c.take_away_one.new.pending
-    e.changed.steady e.changed.ready e.changed.turned.sessions e.bare e.told
+    e.changed.steady e.changed.ready e.changed.later.sessions e.bare e.told
 
 pub returns-in-Another-clause-leads : goal.returns-in-Another-clause-leads
 returns-in-Another-clause-leads g c =

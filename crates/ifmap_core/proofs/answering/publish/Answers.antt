@@ -6,7 +6,7 @@ pub returns-in_ok-publish-in-Own-clause-leads : goal.returns-in_ok-publish-in-Ow
 returns-in_ok-publish-in-Own-clause-leads g c =
     let e = c.in_ok-publish-in-Own.ensures in
     publishes_own c.requires.can c.args.wish.now.id.now c.in-Own.serial c.in-Own.ensures c.publish.new.parts c.publish.new.pending
-    e.changed.steady e.changed.ready e.changed.turned.sessions c.args.wish.now.asked.now e.told
+    e.changed.steady e.changed.ready e.changed.later.sessions c.args.wish.now.asked.now e.told
 
 pub returns-in-Another-clause-leads : goal.returns-in-Another-clause-leads
 returns-in-Another-clause-leads g c =

@@ -29,7 +29,7 @@ returns-in_ok-take_away-in-Own-clause-leads g c =
     let e = c.in_ok-take_away-in-Own.ensures in
     let client = ap (λ (x : Asking). x.client) c.asking.view_is in
     purges_own c.requires c.args.wish.now.id.now c.in-Own.serial c.in-Own.ensures c.take_away.new.parts c.take_away.new.pending
-    e.changed.steady e.changed.ready e.changed.turned.sessions c.args.wish.now.asked.now _
+    e.changed.steady e.changed.ready e.changed.later.sessions c.args.wish.now.asked.now _
     (c.equals.ensures.0 c.if-not-equals.false ∙ c.text.ensures.text ∙ client) (c.in_ok-copy-in-Own.ensures ∙ client) e.takes.told
 
 pub returns-then-not-equals-clause-leads : goal.returns-then-not-equals-clause-leads

@@ -18,7 +18,7 @@ returns-clause-leads g c =
     c.limit_of.ensures
     (c.in_ok-opening.ensures.client ∙ client) (c.in_ok-publisher.ensures ∙ c.text.ensures.text ∙ client) c.in_ok-opening.ensures.serial
     c.in_ok-opening.ensures.id c.requires.next c.former_of-former.ensures.serial c.requires.free c.prepare.new.self c.is_table.ensures
-    c.prepare.ensures.same c.in_ok-take_away_former.ensures.changed.turned.sessions c.in_ok-opening.ensures.room
+    c.prepare.ensures.same c.in_ok-take_away_former.ensures.changed.later.sessions c.in_ok-opening.ensures.room
     c.former_of-former.ensures.live c.in_ok-take_away_former.ensures.told
     c.in_ok-take_away_former.ensures.changed.steady c.in_ok-take_away_former.ensures.changed.ready
     c.in_ok-take_away_former.ensures.bare

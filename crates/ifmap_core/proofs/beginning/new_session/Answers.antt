@@ -1,7 +1,7 @@
 use Rattle.std.proofs.Common.{sym, ◌∙◌, refl}
 use Rattle.ifmap_subscribes.specs.ifmap_changes.Between.{state_now}
 use Rattle.ifmap_core.proofs.Begun.{full_leads}
-use Rattle.ifmap_core.proofs.Exits.{stays_turns}
+use Rattle.ifmap_core.proofs.Exits.{stays_later_or_kept}
 use Rattle.ifmap_core.proofs.Spending.{begun_none, begun_within}
 use Rattle.ifmap_core.proofs.beginning.new_session.Goals as goal
 
@@ -14,7 +14,7 @@ returns-then-is_full-clause-leads g c =
     c.requires (sym (c.is_full.ensures.full c.args.parts.now c.args.pending.now refl) ∙ c.if-is_full.true)
 
 pub returns-then-is_full-clause-change : goal.returns-then-is_full-clause-change
-returns-then-is_full-clause-change g c = stays_turns c.refuse.result c.args.parts.now c.requires.steady
+returns-then-is_full-clause-change g c = stays_later_or_kept c.refuse.result c.args.parts.now c.requires.steady
 
 pub returns-then-is_full-clause-steps : goal.returns-then-is_full-clause-steps
 returns-then-is_full-clause-steps g c =

@@ -6,7 +6,7 @@ use Rattle.ifmap_subscribes.specs.ifmap_graph.Out.{items_changed}
 
 pub settle_ended-requires-clause-settle : goal.settle_ended-requires-clause-settle
 settle_ended-requires-clause-settle g c =
-    can_settle_later c.args.ending.made c.args.parts.now c.answer.new.parts c.requires.settle c.in-Ok.ensures.change.turned
+    can_settle_later c.args.ending.made c.args.parts.now c.answer.new.parts c.requires.settle c.in-Ok.ensures.change.later
 
 pub returns-in-Ok-clause-answer : goal.returns-in-Ok-clause-answer
 returns-in-Ok-clause-answer g c =
@@ -28,4 +28,4 @@ returns-in-Err-clause-kept g c = λ before sound numbers back.
 pub returns-in-Ok-clause-lean : goal.returns-in-Ok-clause-lean
 returns-in-Ok-clause-lean g c = λ before back rest l.
     c.finish.ensures.lean rest (c.settle_ended.ensures.lean rest
-    (c.in-Ok.ensures.change.turned.lean (items_changed c.args.ending.made.undo.plan.changes ++ rest) (back.lean rest l)))
+    (c.in-Ok.ensures.change.later.lean (items_changed c.args.ending.made.undo.plan.changes ++ rest) (back.lean rest l)))

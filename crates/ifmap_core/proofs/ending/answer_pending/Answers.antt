@@ -4,7 +4,7 @@ use Rattle.ifmap_lemmas.specs.Rising.{nothing_rises}
 use Rattle.ifmap_core.proofs.Exits.{gives_up}
 use Rattle.ifmap_core.proofs.Expiring.{none_dropped}
 use Rattle.ifmap_core.proofs.Spending.{ask_none}
-use Rattle.ifmap_core.proofs.Turned.{back_itself}
+use Rattle.ifmap_core.proofs.LaterParts.{back_itself}
 use Rattle.ifmap_core.proofs.ending.answer_pending.Goals as goal
 use Rattle.ifmap_core.specs.Bounds.{IsAskWithin}
 use Rattle.ifmap_core.specs.Ending.{state_when}
@@ -30,7 +30,7 @@ returns-clause-answers g c = record {
       ∙ none_dropped (state_when c.args.time.now c.args.parts.now));
   kept = tt;
   parts = c.finish.ensures.parts;
-  lean = λ rest l. c.finish.ensures.lean rest (c.in_ok-completion.ensures.change.turned.lean rest l);
+  lean = λ rest l. c.finish.ensures.lean rest (c.in_ok-completion.ensures.change.later.lean rest l);
 }
 
 pub returns-in_err-pending-clause-steps : goal.returns-in_err-pending-clause-steps

@@ -8,7 +8,7 @@ use Rattle.ifmap_core.proofs.Ended.{expired_end}
 use Rattle.ifmap_core.proofs.Exits.{gives_up}
 use Rattle.ifmap_core.proofs.Expiring.{expired_rise, expires_by}
 use Rattle.ifmap_core.proofs.Spending.{ask_none, event_expired, event_none}
-use Rattle.ifmap_core.proofs.Turned.{back_itself}
+use Rattle.ifmap_core.proofs.LaterParts.{back_itself}
 use Rattle.ifmap_core.proofs.ending.end_and_answer.Given as given
 use Rattle.ifmap_core.proofs.ending.end_and_answer.Goals as goal
 use Rattle.ifmap_core.proofs.ending.end_and_answer.Goals.{After-take_away_kept}

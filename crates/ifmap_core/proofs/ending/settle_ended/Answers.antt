@@ -1,5 +1,5 @@
 use Rattle.ifmap_core.proofs.Expiring.{can_settled}
-use Rattle.ifmap_core.proofs.Turned.{keeps_there}
+use Rattle.ifmap_core.proofs.LaterParts.{keeps_there}
 use Rattle.ifmap_core.proofs.ending.settle_ended.Goals as goal
 use Rattle.ifmap_core.specs.Completions.{starts_in}
 use Rattle.ifmap_subscribes.specs.ifmap_changes.StartLaws.{shares_fewer}

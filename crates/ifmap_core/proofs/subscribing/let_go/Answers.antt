@@ -1,7 +1,7 @@
 use Rattle.std.proofs.Common.{refl}
 use Rattle.ifmap_core.proofs.Places.{searched_itself}
 use Rattle.ifmap_core.proofs.Subscribed.{ready_there, same_so_far}
-use Rattle.ifmap_core.proofs.Turned.{keeps_there}
+use Rattle.ifmap_core.proofs.LaterParts.{keeps_there}
 use Rattle.ifmap_core.proofs.subscribing.let_go.Goals as goal
 use Rattle.ifmap_subscribes.specs.ifmap_standing.PlaceLaws.{kept_itself}
 use Rattle.ifmap_subscribes.specs.ifmap_tellings.ToldLaws.{same_sessions_itself}
@@ -26,8 +26,8 @@ returns-clause-state_now c =
     same_so_far c.args.asking.now old (record { graph = c.release_all.new.graph; sessions = old.sessions; standing = old.standing })
     c.args.pending.now c.release_all.ensures.lets_go.rows (same_sessions_itself old.sessions) refl
 
-pub returns-clause-turned : goal.returns-clause-turned
-returns-clause-turned c = record {
+pub returns-clause-later : goal.returns-clause-later
+returns-clause-later c = record {
   waits = c.release_all.ensures.lets_go.waits;
   lean = c.release_all.ensures.lets_go.lean;
   searches = searched_itself c.args.parts.now.standing.items;

@@ -3,7 +3,7 @@ use Rattle.ifmap_subscribes.specs.ifmap_changes.Between.{IsSteady, state_now}
 use Rattle.ifmap_core.proofs.Cases.{accepts, live_after}
 use Rattle.ifmap_core.proofs.Exits.{keeps}
 use Rattle.ifmap_core.proofs.Subscribed.{overruns}
-use Rattle.ifmap_core.proofs.Turned.{kept_room, turned_room}
+use Rattle.ifmap_core.proofs.LaterParts.{kept_room, later_in_room}
 use Rattle.ifmap_core.proofs.subscribing.overrun.Goals as goal
 use Rattle.ifmap_core.specs.Completions.{state_with_error}
 use Rattle.ifmap_subscribes.specs.ifmap_machine.declared.events.Answer.TheVariants as the_answer
@@ -28,7 +28,7 @@ returns-clause-leads c = λ s e.
 
 pub returns-clause-change : goal.returns-clause-change
 returns-clause-change c = record {
-  turned = turned_room c.args.parts.now c.let_go.new.parts c.tell_over.new.parts c.let_go.ensures.turned c.tell_over.ensures.graph
+  later = later_in_room c.args.parts.now c.let_go.new.parts c.tell_over.new.parts c.let_go.ensures.later c.tell_over.ensures.graph
       (ap (λ v. v.items) c.tell_over.ensures.standing) c.tell_over.ensures.sessions;
   kept = tt;
 }

@@ -5,7 +5,7 @@ use Rattle.std.specs.Prelude.{vec_capacity, vec_len}
 use Rattle.ifmap_session.specs.Sessions.{spare_of}
 use Rattle.ifmap_subscribes.specs.ifmap_tellings.Tellings.{count_where}
 use Rattle.ifmap_core.proofs.Subscribed.{leads_renamed, live_left, ready_room}
-use Rattle.ifmap_core.proofs.Turned.{room_kept, stays_turned, turned_room}
+use Rattle.ifmap_core.proofs.LaterParts.{room_kept, stays_later, later_in_room}
 use Rattle.ifmap_core.proofs.subscribing.rename_ready.Goals as goal
 
 pub make_places-requires : goal.make_places-requires
@@ -26,7 +26,7 @@ pub returns-in-Ok-clause-change : goal.returns-in-Ok-clause-change
 returns-in-Ok-clause-change c =
     let p = c.make_places.ensures in
     record {
-      turned = turned_room c.args.parts.now c.args.parts.now c.make_places.new.parts (stays_turned c.args.parts.now) p.graph p.standing
+      later = later_in_room c.args.parts.now c.args.parts.now c.make_places.new.parts (stays_later c.args.parts.now) p.graph p.standing
           p.sessions;
       kept = tt;
     }
@@ -45,6 +45,6 @@ pub returns-clause-change : goal.returns-clause-change
 returns-clause-change c =
     let p = c.make_places.ensures in
     record {
-      turned = tt;
+      later = tt;
       kept = room_kept c.args.parts.now c.make_places.new.parts c.let_go.new.parts p.graph p.standing p.sessions c.let_go.ensures.kept;
     }

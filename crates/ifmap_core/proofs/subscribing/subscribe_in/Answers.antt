@@ -1,5 +1,5 @@
 use Rattle.std.proofs.Common.{sym, ◌∙◌, ap}
-use Rattle.ifmap_core.proofs.Subscribed.{holds_leads, holds_turns, told_is}
+use Rattle.ifmap_core.proofs.Subscribed.{holds_leads, holds_later_or_kept, told_is}
 use Rattle.ifmap_core.proofs.subscribing.subscribe_in.Goals as goal
 use Rattle.ifmap_core.specs.Answering.{GivesCompletion}
 use Rattle.ifmap_subscribes.specs.ifmap_graph.Seen.{rows_now}
@@ -26,5 +26,5 @@ returns-in-Ok-clause-leads g c = λ s e.
 
 pub returns-in-Ok-clause-change : goal.returns-in-Ok-clause-change
 returns-in-Ok-clause-change g c =
-    holds_turns c.accept_ops.result c.args.parts.now c.ready_ops.new.parts c.accept_ops.new.parts c.in-Ok.ensures.holds
+    holds_later_or_kept c.accept_ops.result c.args.parts.now c.ready_ops.new.parts c.accept_ops.new.parts c.in-Ok.ensures.holds
     c.accept_ops.ensures.change

@@ -1,5 +1,5 @@
 use Rattle.std.proofs.Common.{ap}
-use Rattle.ifmap_core.proofs.Turned.{first_parts}
+use Rattle.ifmap_core.proofs.LaterParts.{first_parts}
 use Rattle.ifmap_core.proofs.machine.Core.new.Goals as goal
 use Rattle.ifmap_subscribes.specs.ifmap_graph.Shelved.{list_at, rows_by}
 use Rattle.ifmap_subscribes.specs.ifmap_graph.Sides.{list_now}

@@ -2,7 +2,7 @@ use Rattle.std.proofs.Common.{rules, ◌≡◌, ◌↔◌, ◌⊎◌, ◌∙◌,
 use Rattle.std.proofs.lemmas.Grind.{common_steps}
 use Rattle.ifmap_core.specs.Causes.{AsksForNoneLeft, FindsTooMuch, HasNoRoomForName, IsLoss, IsRefusal, NamesAnothersSession, NamesNoSession, PollsNoSession, PollsNothing, PurgesAnother, state_for}
 use Rattle.ifmap_core.proofs.Answered.{heard_where_lost, held_on_poll, of_answer, told_end}
-use Rattle.ifmap_core.proofs.Turned.{back_state}
+use Rattle.ifmap_core.proofs.LaterParts.{back_state}
 use Rattle.ifmap_core.proofs.Refusals.{access_denied, invalid_session, refusal_leaves, system_error, too_big}
 use Rattle.ifmap_core.proofs.Spending.{within_advanced}
 use Rattle.ifmap_core.proofs.machine.Core.step.Goals as goal

@@ -1,7 +1,7 @@
--- Parts that stay, parts that were turned, and parts that are back: of themselves, and one after the other.
--- Plan: (1) of themselves: the same sessions, shared numbers, kept and turned parts; (2) one after the other; (3) what is back
+-- Parts that stay, later parts, and parts that are back: of themselves, and one after the other.
+-- Plan: (1) of themselves: the same sessions, shared numbers, kept and later parts; (2) one after the other; (3) what is back
 -- is what it was, and subscriptions keep what they kept where numbers are shared (`keeps_there`, `all_there`);
--- (4) parts of which only room changed, before or after a change (`kept_room`, `turned_room`, `room_kept`); (5) parts at the
+-- (4) parts of which only room changed, before or after a change (`kept_room`, `later_in_room`, `room_kept`); (5) parts at the
 -- start.
 use Rattle.std.proofs.Common.{◌≡◌, refl, sym, ◌∙◌, ap, subst, ℕ, List, [], ◌∷◌, Some, arith}
 use Rattle.std.proofs.lemmas.Option.{same_Some}
@@ -46,8 +46,8 @@ back_itself parts steady = record {
   sessions = same_sessions_itself parts.sessions;
 }
 
-pub stays_turned : (parts : Parts) → AreLaterParts parts parts
-stays_turned parts = record {
+pub stays_later : (parts : Parts) → AreLaterParts parts parts
+stays_later parts = record {
   waits = λ rest w. w;
   lean = λ rest l. l;
   searches = searched_itself parts.standing.items;
@@ -56,8 +56,8 @@ stays_turned parts = record {
 
 -- ---- one after the other
 
-pub turned_twice : (a b c : Parts) → AreLaterParts a b → AreLaterParts b c → AreLaterParts a c
-turned_twice a b c s t = record {
+pub later_twice : (a b c : Parts) → AreLaterParts a b → AreLaterParts b c → AreLaterParts a c
+later_twice a b c s t = record {
   waits = λ rest w. t.waits rest (s.waits rest w);
   lean = λ rest l. t.lean rest (s.lean rest l);
   searches = searched_twice a.standing.items b.standing.items c.standing.items s.searches t.searches;
@@ -105,10 +105,10 @@ kept_room a b c k graph standing sessions = record {
   backs = rw graph k.backs;
 }
 
-pub turned_room : (a b c : Parts) → AreLaterParts a b → c.graph ≡ b.graph → c.standing.items ≡ b.standing.items
+pub later_in_room : (a b c : Parts) → AreLaterParts a b → c.graph ≡ b.graph → c.standing.items ≡ b.standing.items
     → HasSameSessions b.sessions c.sessions
     → AreLaterParts a c
-turned_room a b c k graph standing sessions = record {
+later_in_room a b c k graph standing sessions = record {
   waits = rw graph k.waits;
   lean = rw graph k.lean;
   searches = rw standing k.searches;
