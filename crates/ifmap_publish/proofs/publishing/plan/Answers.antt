@@ -1,4 +1,4 @@
-use Rattle.std.proofs.Common.{◌≡◌, ◌∙◌}
+use Rattle.std.proofs.Common.{◌≡◌}
 use Rattle.ifmap_publish.specs.Apply.{apply}
 use Rattle.ifmap_publish.proofs.Changing.{all_rising, edits_are_changes, edits_are_exact, edits_fit, edits_lead}
 use Rattle.ifmap_publish.proofs.publishing.plan.Goals as goal
