@@ -1,8 +1,8 @@
 -- A change that is out is made, or given up, once subscriptions were told of it.
 -- First what the calls said of the parts, as of those before (`IsOutAndTold`), and that its items are waited for (`awaits_told`). Then what
 -- is seen once it is made (`Commits`), and each clause of a change that was made: what stays whole and steady (`steady_made`), that
--- the parts are later ones (`later_made`), the way back (`back_made`), what is told (`told_made`) and what is ready (`ready_made`, `bare_made`). Last,
--- what stands once it is given up (`Forgets`, `given_up`).
+-- the parts are later ones (`later_made`), the way back (`back_made`), what is told (`told_made`) and what is ready (`ready_made`,
+-- `bare_made`). Last, what stands once it is given up (`Forgets`, `given_up`).
 use Rattle.std.proofs.Common.{◌≡◌, ◌≢◌, ℕ, Option, List, [], ◌++◌, map, ap, ◌∙◌, sym, subst}
 use Rattle.std.proofs.lemmas.Option.{same_Some}
 use Rattle.ifmap_lemmas.specs.Filters.{all_weaker}

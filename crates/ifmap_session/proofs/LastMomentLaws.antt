@@ -66,8 +66,8 @@ moments_end rows width place tree s all = λ p high. elim (cases_lt p place) [
   | inr more ↦ s.after p more high ∙ ap last_moment_in (sym (slice_get_past rows p (omega arith)))
 ]
 
-pub last_moment_is_set : (rows : List SessionRow) (width i last_moment : ℕ) (q : SessionRow) (old new : List ℕ) → HasLastMoments rows width old
-    → i < length rows
+pub last_moment_is_set : (rows : List SessionRow) (width i last_moment : ℕ) (q : SessionRow) (old new : List ℕ)
+    → HasLastMoments rows width old → i < length rows
     → SetsLastMoment width i last_moment old new → last_moment ≡ last_moment_of q → HasLastMoments (set rows i q) width new
 last_moment_is_set rows width i last_moment q old new s within r is = λ p high. elim (cases_lt p i) [
   | inl less ↦ other p high (omega arith)
@@ -82,7 +82,8 @@ last_moment_is_set rows width i last_moment q old new s within r is = λ p high.
   other p high apart = keeps_last_moment width i last_moment p old new r high apart ∙ s p high ∙ ap last_moment_in
       (sym (written_elsewhere rows i p q apart))
 
-pub last_moments_after_push : (rows : List SessionRow) (width last_moment : ℕ) (q : SessionRow) (old new : List ℕ) → HasLastMoments rows width old
+pub last_moments_after_push : (rows : List SessionRow) (width last_moment : ℕ) (q : SessionRow) (old new : List ℕ)
+    → HasLastMoments rows width old
     → SetsLastMoment width (length rows) last_moment old new → last_moment ≡ last_moment_of q → HasLastMoments (rows ++ q ∷ []) width new
 last_moments_after_push rows width last_moment q old new s r is = λ p high. elim (cases_lt p (length rows)) [
   | inl less ↦ other p high (omega arith)
