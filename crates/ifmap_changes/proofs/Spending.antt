@@ -82,13 +82,13 @@ pub ended_none : (serial : ℕ) (state : State) (n : ℕ) → IsEndedWithin (ser
 ended_none serial state n = (n, omega arith, inl (omega arith))
 
 -- its subscriptions are flagged, and what was to stay as long as it is taken away
-pub ended_within : (a : Asking) (parts : Parts) (before marked : Pending) (serial : ℕ) (serials : List ℕ) (from to : ℕ)
+pub ended_within : (a : Asking) (parts : Parts) (before flagged : Pending) (serial : ℕ) (serials : List ℕ) (from to : ℕ)
     → serials ≡ serial ∷ []
-    → map standing_of (kept_items marked.gone.items parts.standing.items)
+    → map standing_of (kept_items flagged.gone.items parts.standing.items)
     ≡ without_standing (serial ∷ []) (map standing_of (kept_items before.gone.items parts.standing.items))
-    → IsTakenWithin (Sessions serials) (state_now a parts marked) from to
+    → IsTakenWithin (Sessions serials) (state_now a parts flagged) from to
     → IsEndedWithin (serial ∷ []) (state_now a parts before) from to
-ended_within a parts before marked serial serials from to one left spent =
+ended_within a parts before flagged serial serials from to one left spent =
     subst (λ (xs : List machine.Standing). IsTakenWithin (Sessions (serial ∷ []))
-    (record (state_now a parts marked) { standing = xs }) from to) left
-    (subst (λ (ns : List ℕ). IsTakenWithin (Sessions ns) (state_now a parts marked) from to) one spent)
+    (record (state_now a parts flagged) { standing = xs }) from to) left
+    (subst (λ (ns : List ℕ). IsTakenWithin (Sessions ns) (state_now a parts flagged) from to) one spent)

@@ -13,7 +13,7 @@ use Rattle.ifmap_client_script.specs.declared.exchanges.Caller.{Caller}
 use Rattle.ifmap_client_script.specs.declared.exchanges.ReadReply.{ReadReply}
 use Rattle.ifmap_client_script.specs.declared.outcomes.ScriptFailure.{ScriptFailure}
 use Rattle.ifmap_client_script.specs.declared.outcomes.ScriptFailure.TheVariants as failure
-use Rattle.ifmap_client_script.specs.Exchanges.{AnswersTo, AsksOnWire, Breaks, HasAny, HasNoReply, HasPart, Hears, Posts, Reads, Receives, BodyTellsReply, ReadingStands, Unwritten, exchange_of, request_post}
+use Rattle.ifmap_client_script.specs.Exchanges.{AnswersTo, AsksOnWire, Breaks, HasAny, HasNoReply, HasPart, Hears, Posts, Reads, Receives, BodyTellsReply, ReadingStands, WritingStands, exchange_of, request_post}
 use Rattle.ifmap_io.specs.Rises.{keeps_appends}
 
 -- a body that came means no reply
@@ -48,7 +48,7 @@ any_left (Some l) = (l, refl, tt)
 -- ---- what was left is what it was before the post
 
 module _ (caller : Caller) (request : Request) (before mid after : WireSeen) (unread : ReadingStands before mid)
-    (unwritten : Unwritten mid after) where
+    (unwritten : WritingStands mid after) where
   abbrev post : List ℕ
   post = request_post caller request
 

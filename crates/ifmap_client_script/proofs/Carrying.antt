@@ -22,9 +22,9 @@ use Rattle.ifmap_client_script.specs.Ends.{LinkFailed, Ports}
 use Rattle.ifmap_client_script.specs.Exchanges.{AnswersTo, AsksOnWire, HasPostedAndHeard, HasAny, HasNoReply, HasPart, IsFrontOfPost, exchange_of, request_post}
 use Rattle.ifmap_client_script.specs.Outlets.{AreUnspent, AsksBy, AsksOver, IsAsked, Prints}
 use Rattle.ifmap_client_script.specs.Printing.{body_text, set_text}
-use Rattle.ifmap_client_script.specs.Promises.{Broken, Cutting, Exchanged, IsWholePost}
+use Rattle.ifmap_client_script.specs.Promises.{BreaksExchange, Cutting, HaveExchanged, IsWholePost}
 use Rattle.ifmap_client_script.specs.ScriptFailures.{IsNamedOrBadLine, SendsText}
-use Rattle.ifmap_client_script.specs.Turns.{CarriesOut, PartlyWritten, Unanswered}
+use Rattle.ifmap_client_script.specs.Turns.{CarriesOut, PartlyWritten, GetsNoReply}
 use Rattle.ifmap_io.specs.Rises.{keeps_appends}
 
 -- a wire that is as it was, was asked nothing
@@ -91,28 +91,28 @@ module _ (caller : Caller) (sent : Request) (before after : Ports) (unspent : Ar
   told_means told false w = w.1.1
 
   exchanged : (told : ReadReply) → AsksBy (is_poll sent) caller sent before after (Ok told)
-      → Exchanged caller before after (deed.asked (exchange_of sent told) ∷ [])
+      → HaveExchanged caller before after (deed.asked (exchange_of sent told) ∷ [])
   exchanged told w = record { first = asked_first told (is_poll sent) w; second = asked_second told (is_poll sent) w }
 
   -- a part of the post was written, or an answer was cut
   cut_off : (b : Bool) → AsksBy b caller sent before after (Err failure.NoMemory)
-      → (front : List ℕ) × IsFrontOfPost (request_post caller sent) front × Broken caller before after b [] front HasAny
+      → (front : List ℕ) × IsFrontOfPost (request_post caller sent) front × BreaksExchange caller before after b [] front HasAny
   cut_off true w = (w.1.0, w.1.1, (none_first w.0, w.1.2))
   cut_off false w = (w.1.0, w.1.1, (w.1.2, none_second w.0))
 
   faulty : (b : Bool) → AsksBy b caller sent before after (Err failure.LinkFault)
-      → ((front : List ℕ) × IsFrontOfPost (request_post caller sent) front × Broken caller before after b [] front HasAny)
+      → ((front : List ℕ) × IsFrontOfPost (request_post caller sent) front × BreaksExchange caller before after b [] front HasAny)
       × LinkFailed before after
   faulty true w = ((w.1.0.0, w.1.0.1, (none_first w.0, w.1.0.2)), inr w.1.1)
   faulty false w = ((w.1.0.0, w.1.0.1, (w.1.0.2, none_second w.0)), inl w.1.1)
 
   ended : (b : Bool) → AsksBy b caller sent before after (Err failure.LinkEnded)
-      → Broken caller before after b [] (request_post caller sent) HasPart
+      → BreaksExchange caller before after b [] (request_post caller sent) HasPart
   ended true w = (none_first w.0, w.1)
   ended false w = (w.1, none_second w.0)
 
   bad : (b : Bool) → AsksBy b caller sent before after (Err failure.BadReply)
-      → Broken caller before after b [] (request_post caller sent) HasNoReply
+      → BreaksExchange caller before after b [] (request_post caller sent) HasNoReply
   bad true w = (none_first w.0, w.1)
   bad false w = (w.1, none_second w.0)
 
@@ -124,8 +124,8 @@ module _ (caller : Caller) (sent : Request) (before after : Ports) (unspent : Ar
   module _ (known : Known) (request : Request) (named : request_in known.session request ≡ Some sent) where
     module _ (kept : Keeps before.held after.held) where
       posted : (IsCut : Cutting) (Has : List ℕ → Type 0) (front : List ℕ) → IsCut (request_post caller sent) front
-          → Broken caller before after (is_poll sent) [] front Has
-          → Unanswered caller (the_line.Request request) before after known IsCut Has
+          → BreaksExchange caller before after (is_poll sent) [] front Has
+          → GetsNoReply caller (the_line.Request request) before after known IsCut Has
       posted IsCut Has front cut b = record {
         request = request;
         sent = sent;
@@ -274,7 +274,7 @@ module _ (caller : Caller) (known : Known) (before : Ports) (unspent : AreUnspen
   }
 
   module _ (after : Ports) (name : List ℕ) (first : after.first ≡ before.first) (second : after.second ≡ before.second) where
-    idle : Exchanged caller before after (deed.printed name ∷ [])
+    idle : HaveExchanged caller before after (deed.printed name ∷ [])
     idle = record {
       first = exchanges_none caller before.first after.first unspent.first first;
       second = exchanges_none caller before.second after.second unspent.second second;

@@ -21,7 +21,7 @@ use Rattle.ifmap_client_script.specs.Ends.{ArePortsLater, SourceAndPorts, IsLate
 use Rattle.ifmap_client_script.specs.Exchanges.{HasAny, HasNoReply, HasPart, IsFrontOfPost, WireFailed}
 use Rattle.ifmap_client_script.specs.Holding.{known_of}
 use Rattle.ifmap_client_script.specs.TakenBytes.{Fetches, TakenBytes, nothing_taken}
-use Rattle.ifmap_client_script.specs.Promises.{Cutting, Did, IsCarriedOut, IsFaulty, IsPartlyDone, IsUnanswered, IsUnread, IsUnwritten, IsWholePost, Posted, ScriptPromises, CarriesTaken, Wrote, known_after}
+use Rattle.ifmap_client_script.specs.Promises.{Cutting, Did, IsCarriedOut, IsFaulty, IsPartlyDone, IsUnanswered, IsUnread, IsUnwritten, IsWholePost, PostsUnanswered, ScriptPromises, CarriesTaken, Wrote, known_after}
 use Rattle.ifmap_client_script.specs.Scripts.{IsBadLine}
 use Rattle.ifmap_client_script.specs.ScriptFailures.{script_outcome}
 use Rattle.ifmap_client_script.specs.Turns.{IsAtFault, IsBeginning, IsCutShort, IsDue, IsIdle, IsLeft, IsOver, Scripting, TakesLine, IsScriptTurn, TurnsOn}
@@ -239,7 +239,7 @@ module _ (caller : Caller) (before now after : SourceAndPorts) (old : Scripting)
         };
         line_is = r.line_is;
         posted = posted_then caller before.ports now.ports after.ports r.deeds nothing_known IsCut Has u.sent r.did
-            (subst (λ (k : Known). Posted caller now.ports after.ports IsCut Has k [] u.sent) r.known u.posted);
+            (subst (λ (k : Known). PostsUnanswered caller now.ports after.ports IsCut Has k [] u.sent) r.known u.posted);
       }
 
   lost : IsIdle caller now after old → IsPartlyDone caller before after

@@ -19,7 +19,7 @@ use Rattle.ifmap_client_script.specs.Ends.{Ports}
 use Rattle.ifmap_client_script.specs.Exchanges.{HasPostedAndHeard, first_asks, second_asks}
 use Rattle.ifmap_client_script.specs.TakenBytes.{Fetches, TakenBytes, with_bytes, with_last_newline}
 use Rattle.ifmap_client_script.specs.Printing.{deed_text, deeds_text}
-use Rattle.ifmap_client_script.specs.Promises.{Broken, Cutting, Did, Exchanged, Posted, Wrote}
+use Rattle.ifmap_client_script.specs.Promises.{BreaksExchange, Cutting, Did, HaveExchanged, PostsUnanswered, Wrote}
 use Rattle.ifmap_client_script.specs.Scripts.{BeginsLine, Carries, HasNoNewline, IsTakenScript}
 use Rattle.ifmap_client_script.proofs.Progress.{breaks_then, carries_more, carries_then, exchanges_then, first_asks-append, second_asks-append, written_snoc}
 
@@ -174,8 +174,8 @@ pass start left offset deeds pending text rest line d f begins means does = reco
 -- ---- what was done
 
 module _ (caller : Caller) (before mid after : Ports) (deeds : List Deed) (known : Known) where
-  exchanged_then : (more : List Deed) → Exchanged caller before mid deeds → Exchanged caller mid after more
-      → Exchanged caller before after (deeds ++ more)
+  exchanged_then : (more : List Deed) → HaveExchanged caller before mid deeds → HaveExchanged caller mid after more
+      → HaveExchanged caller before after (deeds ++ more)
   exchanged_then more one other = record {
     first = subst (λ (l : List Exchange). HasPostedAndHeard caller l before.first after.first) (sym (first_asks-append deeds more))
         (exchanges_then caller (first_asks deeds) before.first mid.first after.first one.first (first_asks more) other.first);
@@ -203,8 +203,8 @@ module _ (caller : Caller) (before mid after : Ports) (deeds : List Deed) (known
     exchanged = exchanged_then (d ∷ []) one.exchanged other.exchanged;
   }
 
-  broken_then : (b : Bool) (post : List ℕ) (Has : List ℕ → Type 0) → Exchanged caller before mid deeds
-      → Broken caller mid after b [] post Has → Broken caller before after b deeds post Has
+  broken_then : (b : Bool) (post : List ℕ) (Has : List ℕ → Type 0) → HaveExchanged caller before mid deeds
+      → BreaksExchange caller mid after b [] post Has → BreaksExchange caller before after b deeds post Has
   broken_then true post Has one other = (
     subst (λ (l : List Exchange). HasPostedAndHeard caller l before.first after.first) (append-nil (first_asks deeds))
         (exchanges_then caller (first_asks deeds) before.first mid.first after.first one.first [] other.0),
@@ -217,7 +217,8 @@ module _ (caller : Caller) (before mid after : Ports) (deeds : List Deed) (known
   )
 
   pub posted_then : (IsCut : Cutting) (Has : List ℕ → Type 0) (sent : Request) → Did caller before mid known deeds
-      → Posted caller mid after IsCut Has (after_deeds deeds known) [] sent → Posted caller before after IsCut Has known deeds sent
+      → PostsUnanswered caller mid after IsCut Has (after_deeds deeds known) [] sent
+      → PostsUnanswered caller before after IsCut Has known deeds sent
   posted_then IsCut Has sent one other = record {
     front = other.front;
     cut = other.cut;

@@ -17,7 +17,7 @@ use Rattle.ifmap_client_script.specs.Ends.{SourceAndPorts, Ports, source_and_por
 use Rattle.ifmap_client_script.specs.Exchanges.{HasAny, IsFrontOfPost}
 use Rattle.ifmap_client_script.specs.Holding.{known_of}
 use Rattle.ifmap_client_script.specs.TakenBytes.{Fetches, TakenBytes}
-use Rattle.ifmap_client_script.specs.Turns.{PartlyWritten, DoesNext, IsNextLine, ReadsNext, Scripting, TakesLine, IsScriptTurn, Unanswered}
+use Rattle.ifmap_client_script.specs.Turns.{PartlyWritten, DoesNext, IsNextLine, ReadsNext, Scripting, TakesLine, IsScriptTurn, GetsNoReply}
 use Rattle.ifmap_client_script.proofs.Beginnings.{bad_at, begins_at}
 
 -- the script with what is pending now
@@ -50,7 +50,7 @@ module _ (caller : Caller) (left left_new : Option (List ℕ)) (faults faults_ne
     size = let h = is_next.end.within in length-take-le next.place pending.bytes (omega arith)
 
     memory : ((after ≡ before)
-        ⊎ (Unanswered caller next.line before after (known_of old.client) IsFrontOfPost HasAny
+        ⊎ (GetsNoReply caller next.line before after (known_of old.client) IsFrontOfPost HasAny
         ⊎ PartlyWritten caller next.line before after (known_of old.client)))
         → IsScriptTurn caller from_ends to_ends old new (Err failure.NoMemory)
     memory (inl same) =

@@ -108,7 +108,7 @@ pub record ReadingStands (before after : WireSeen) : Type 0 where
   pub spent : after.spent ≡ before.spent
 
 -- writing is as it was
-pub record Unwritten (before after : WireSeen) : Type 0 where
+pub record WritingStands (before after : WireSeen) : Type 0 where
   pub held : after.held ≡ before.held
   pub read_faults : before.read_faults ≤ after.read_faults
   pub write_faults : after.write_faults ≡ before.write_faults

@@ -46,37 +46,37 @@ module _ (before after : SourceAndPorts) where
 
 module _ (caller : Caller) (before after : Ports) where
   -- the wires were asked what the deeds ask
-  pub record Exchanged (deeds : List Deed) : Type 0 where
+  pub record HaveExchanged (deeds : List Deed) : Type 0 where
     pub first : HasPostedAndHeard caller (first_asks deeds) before.first after.first
     pub second : HasPostedAndHeard caller (second_asks deeds) before.second after.second
 
   -- the wires were asked what the deeds ask; the one over which the request goes gained so much of its post, and then has left
   -- that
-  abbrev pub Broken : Bool → List Deed → List ℕ → (List ℕ → Type 0) → Type 0
-  Broken true deeds post Has =
+  abbrev pub BreaksExchange : Bool → List Deed → List ℕ → (List ℕ → Type 0) → Type 0
+  BreaksExchange true deeds post Has =
       HasPostedAndHeard caller (first_asks deeds) before.first after.first
       × Breaks caller (second_asks deeds) post Has before.second after.second
-  Broken false deeds post Has =
+  BreaksExchange false deeds post Has =
       Breaks caller (first_asks deeds) post Has before.first after.first
       × HasPostedAndHeard caller (second_asks deeds) before.second after.second
 
   -- the sink gained what is written for the deeds, and the wires were asked what they ask
   pub record Did (known : Known) (deeds : List Deed) : Type 0 where
     pub wrote : Appends before.held after.held (deeds_text known deeds)
-    pub exchanged : Exchanged deeds
+    pub exchanged : HaveExchanged deeds
 
   -- the same, but what is written for one more deed was cut
   pub record Wrote (known : Known) (deeds : List Deed) (deed : Deed) : Type 0 where
     pub count : ℕ
     pub wrote : Appends before.held after.held (deeds_text known deeds ++ take count (deed_text (after_deeds deeds known) deed))
-    pub exchanged : Exchanged (deeds ++ deed ∷ [])
+    pub exchanged : HaveExchanged (deeds ++ deed ∷ [])
 
   -- the same, and a request was posted, but no reply came
-  pub record Posted (IsCut : Cutting) (Has : List ℕ → Type 0) (known : Known) (deeds : List Deed) (sent : Request) : Type 0 where
+  pub record PostsUnanswered (IsCut : Cutting) (Has : List ℕ → Type 0) (known : Known) (deeds : List Deed) (sent : Request) : Type 0 where
     pub front : List ℕ
     pub cut : IsCut (request_post caller sent) front
     pub wrote : Appends before.held after.held (deeds_text known deeds)
-    pub broken : Broken (is_poll sent) deeds front Has
+    pub broken : BreaksExchange (is_poll sent) deeds front Has
 
 module _ (caller : Caller) (before after : SourceAndPorts) where
   -- all lines were carried out, up to the end of the source
@@ -124,7 +124,7 @@ module _ (caller : Caller) (before after : SourceAndPorts) where
     pub takes : CarriesTaken before after deeds rest offset
     pub next : AsksNext offset (known_after deeds) rest sent
     pub line_is : line ≡ length deeds + 1
-    pub posted : Posted caller before.ports after.ports IsCut Has nothing_known deeds sent
+    pub posted : PostsUnanswered caller before.ports after.ports IsCut Has nothing_known deeds sent
 
   -- a request or its answer was cut
   abbrev pub IsUnasked : Type 0

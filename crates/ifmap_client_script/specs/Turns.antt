@@ -15,14 +15,14 @@ use Rattle.ifmap_client_script.specs.Ends.{SourceAndPorts, LinkFailed, Ports, Sc
 use Rattle.ifmap_client_script.specs.Exchanges.{HasAny, HasNoReply, HasPart, IsFrontOfPost}
 use Rattle.ifmap_client_script.specs.Holding.{Holding, known_of}
 use Rattle.ifmap_client_script.specs.TakenBytes.{Fetches, IsLineEnd, Loses, TakenBytes, nothing_taken}
-use Rattle.ifmap_client_script.specs.Promises.{Cutting, Did, IsWholePost, Posted, Wrote}
+use Rattle.ifmap_client_script.specs.Promises.{Cutting, Did, IsWholePost, PostsUnanswered, Wrote}
 use Rattle.ifmap_client_script.specs.Scripts.{AwaitsLine, BeginsLine, IsBadLine, IsWithinLineLimits}
 
 -- ---- a line
 
 module _ (caller : Caller) (line : Line) (before after : Ports) (old : Known) where
   -- it was carried out
-  pub record Carried (new : Known) : Type 0 where
+  pub record CarriesLine (new : Known) : Type 0 where
     pub deed : Deed
     pub does : IsDeedFor old line deed
     pub known : new ≡ after_deed deed old
@@ -35,25 +35,25 @@ module _ (caller : Caller) (line : Line) (before after : Ports) (old : Known) wh
     pub wrote : Wrote caller before after old [] deed
 
   -- its request was posted, but no reply came
-  pub record Unanswered (IsCut : Cutting) (Has : List ℕ → Type 0) : Type 0 where
+  pub record GetsNoReply (IsCut : Cutting) (Has : List ℕ → Type 0) : Type 0 where
     pub request : Request
     pub sent : Request
     pub line_is : line ≡ the_line.Request request
     pub named : request_in old.session request ≡ Some sent
-    pub posted : Posted caller before after IsCut Has old [] sent
+    pub posted : PostsUnanswered caller before after IsCut Has old [] sent
 
 -- what was done for a line
 abbrev pub CarriesOut : Caller → Line → (before after : Ports) → (old new : Known) → Result (Unit {0}) ScriptFailure → Type 0
-CarriesOut caller line before after old new (Ok _) = Carried caller line before after old new
+CarriesOut caller line before after old new (Ok _) = CarriesLine caller line before after old new
 CarriesOut caller line before after old new (Err failure.BadLine) = (CanDo old line → ⊥) × (after ≡ before)
 CarriesOut caller line before after old new (Err failure.ReadFault) = ⊥
 CarriesOut caller line before after old new (Err failure.WriteFault) = PartlyWritten caller line before after old × PrintFailed before after
 CarriesOut caller line before after old new (Err failure.LinkFault) =
-    Unanswered caller line before after old IsFrontOfPost HasAny × LinkFailed before after
-CarriesOut caller line before after old new (Err failure.LinkEnded) = Unanswered caller line before after old IsWholePost HasPart
-CarriesOut caller line before after old new (Err failure.BadReply) = Unanswered caller line before after old IsWholePost HasNoReply
+    GetsNoReply caller line before after old IsFrontOfPost HasAny × LinkFailed before after
+CarriesOut caller line before after old new (Err failure.LinkEnded) = GetsNoReply caller line before after old IsWholePost HasPart
+CarriesOut caller line before after old new (Err failure.BadReply) = GetsNoReply caller line before after old IsWholePost HasNoReply
 CarriesOut caller line before after old new (Err failure.NoMemory) =
-    (after ≡ before) ⊎ (Unanswered caller line before after old IsFrontOfPost HasAny ⊎ PartlyWritten caller line before after old)
+    (after ≡ before) ⊎ (GetsNoReply caller line before after old IsFrontOfPost HasAny ⊎ PartlyWritten caller line before after old)
 
 -- ---- a turn
 
@@ -113,7 +113,7 @@ pub record GoesPastLine (next : NextLine) (old new : Scripting) : Type 0 where
 -- what was done for the next line
 abbrev pub DoesNext : Caller → NextLine → (before after : Ports) → (old new : Scripting) → Result ScriptTurn ScriptFailure → Type 0
 DoesNext caller next before after old new (Ok turn.Carried) =
-    Carried caller next.line before after (known_of old.client) (known_of new.client) × GoesPastLine next old new
+    CarriesLine caller next.line before after (known_of old.client) (known_of new.client) × GoesPastLine next old new
 DoesNext caller next before after old new (Ok turn.Ended) = ⊥
 DoesNext caller next before after old new (Err e) =
     CarriesOut caller next.line before after (known_of old.client) (known_of new.client) (Err e) × (new.line ≡ old.line)
@@ -133,7 +133,7 @@ module _ (caller : Caller) (before after : SourceAndPorts) (old : Scripting) whe
   pub record TurnsOn (new : Scripting) : Type 0 where
     pub line : Line
     pub takes : TakesLine before after old line
-    pub carried : Carried caller line before.ports after.ports (known_of old.client) (known_of new.client)
+    pub carried : CarriesLine caller line before.ports after.ports (known_of old.client) (known_of new.client)
     pub pending : new.pending ≡ record { bytes = takes.rest; ended = takes.pending.ended }
     pub offset : new.offset ≡ old.offset + length takes.text + 1
     pub line_is : new.line ≡ old.line + 1
@@ -167,7 +167,7 @@ module _ (caller : Caller) (before after : SourceAndPorts) (old : Scripting) whe
   pub record IsLeft (IsCut : Cutting) (Has : List ℕ → Type 0) : Type 0 where
     pub line : Line
     pub takes : TakesLine before after old line
-    pub unanswered : Unanswered caller line before.ports after.ports (known_of old.client) IsCut Has
+    pub unanswered : GetsNoReply caller line before.ports after.ports (known_of old.client) IsCut Has
 
   -- something was taken, and nothing was done
   pub record IsIdle : Type 0 where

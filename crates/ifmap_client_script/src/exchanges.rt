@@ -3,7 +3,7 @@ ghost use Rattle.std.specs.Prelude.{IsFalse, IsTrue};
 ghost use Rattle.ifmap_http.specs.ifmap_heads.Messages.{is_visible};
 ghost use Rattle.ifmap_http.specs.Wires.{wire_seen};
 ghost use Rattle.ifmap_client_script.specs.Ends.{IsLaterWire};
-ghost use Rattle.ifmap_client_script.specs.Exchanges.{AsksOnWire, Hears, Posts, Reads, Receives, BodyTellsReply, ReadingStands, Unwritten, request_post};
+ghost use Rattle.ifmap_client_script.specs.Exchanges.{AsksOnWire, Hears, Posts, Reads, Receives, BodyTellsReply, ReadingStands, WritingStands, request_post};
 
 use crate::outcomes::ScriptFailure;
 use ifmap_elem::{Many, Text};
@@ -55,7 +55,7 @@ fn receive<L: Link>(alloc: Global, wire: &mut Wire<L>) -> Result<ReadReply, Scri
     ensures hears { let seen = wire_seen L.left L.held L.Source.faults L.Sink.faults in
         Hears (seen wire.old) (seen wire.new) result }
     ensures unwritten { let seen = wire_seen L.left L.held L.Source.faults L.Sink.faults in
-        Unwritten (seen wire.old) (seen wire.new) }
+        WritingStands (seen wire.old) (seen wire.new) }
 {
     match read_body(alloc, wire) {
         Ok(body) => reply_with_body(alloc, body),
@@ -100,7 +100,7 @@ fn read_body<L: Link>(alloc: Global, wire: &mut Wire<L>) -> Result<Many<u8>, Scr
     ensures receives { let seen = wire_seen L.left L.held L.Source.faults L.Sink.faults in
         Receives (seen wire.old) (seen wire.new) result }
     ensures unwritten { let seen = wire_seen L.left L.held L.Source.faults L.Sink.faults in
-        Unwritten (seen wire.old) (seen wire.new) }
+        WritingStands (seen wire.old) (seen wire.new) }
 {
     match wire.read_answer(alloc) {
         Answered::Body(body) => Ok(body),

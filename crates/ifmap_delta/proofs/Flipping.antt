@@ -211,11 +211,11 @@ module _ (tells : BytesTellIdentifiers) (old new : ViewSeen) (s : Search) (was :
         ]
 
     -- the region's old links are those of the old view
-    pub old_there : (v w : ℕ) → Marked v → region.Old (Links new s) flips v w → Links old s v w
+    pub old_there : (v w : ℕ) → Marked v → region.OldLinks (Links new s) flips v w → Links old s v w
     old_there v w marked (inl p) = link_stays v w marked p.0 p.1
     old_there v w marked (inr f) = removed_linked v w f
 
-    pub there_old : (v w : ℕ) → Marked v → Links old s v w → region.Old (Links new s) flips v w
+    pub there_old : (v w : ℕ) → Marked v → Links old s v w → region.OldLinks (Links new s) flips v w
     there_old v w marked l =
         let n = named_before v w l
         in elim (cases_Bool (is_match new.rows s.match_links n.0 n.1)) [

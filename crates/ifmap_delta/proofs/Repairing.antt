@@ -24,13 +24,13 @@ module _ (tells : BytesTellIdentifiers) (old new : ViewSeen) (s : Search) (was :
     (mark : ℕ → Option ℕ) (before : AreMarks old s start top mark) where
   module _ (flips : List Flip) (are : AreFlipsOf old new s mark changes flips) where
     -- the marks before are what a repair asks for
-    region_depths : AreDepths (region.Old (Links new s) flips) (is_terminal_in new s) start top mark
+    region_depths : AreDepths (region.OldLinks (Links new s) flips) (is_terminal_in new s) start top mark
     region_depths =
-        subst (λ n. AreDepths (region.Old (Links new s) flips) (is_terminal_in new s) start n mark) (sym before.most)
+        subst (λ n. AreDepths (region.OldLinks (Links new s) flips) (is_terminal_in new s) start n mark) (sym before.most)
         (old_depths tells old new s was is changes change start mark before.depths flips are)
 
     pub repaired_marks : (mark' : ℕ → Option ℕ)
-        → (AreDepths (region.Old (Links new s) flips) (is_terminal_in new s) start top mark
+        → (AreDepths (region.OldLinks (Links new s) flips) (is_terminal_in new s) start top mark
         → AreDepths (Links new s) (is_terminal_in new s) start top mark') → AreMarks new s start top mark'
     repaired_marks mark' f = record {
       identifier = before.identifier;
@@ -40,7 +40,7 @@ module _ (tells : BytesTellIdentifiers) (old new : ViewSeen) (s : Search) (was :
     }
 
     pub repaired_steps : (from to : ℕ)
-        → (AreDepths (region.Old (Links new s) flips) (is_terminal_in new s) start top mark
+        → (AreDepths (region.OldLinks (Links new s) flips) (is_terminal_in new s) start top mark
         → IsWithin (λ v. 1 + length (new.links v)) (NearFlips (Links new s) flips (is_terminal_in new s) start top) 5 from to)
         → IsWithin (one_and_links old new s) (IsNear old new s start) 5 from to
     repaired_steps from to f =

@@ -70,7 +70,7 @@ module _ (tells : BytesTellIdentifiers) (old new : ViewSeen) (s : Search) (was :
   pub flags_stay : AreMarks new s start top mark
   flags_stay =
       repaired_marks tells old new s was is changes change start top mark before [] no_flips mark
-      (depths_over (region.Old (Links new s) []) (Links new s) (is_terminal_in new s) (is_terminal_in new s) start top
+      (depths_over (region.OldLinks (Links new s) []) (Links new s) (is_terminal_in new s) (is_terminal_in new s) start top
       (λ u v t l. (
         t,
         elim l [

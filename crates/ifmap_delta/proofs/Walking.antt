@@ -136,7 +136,7 @@ module _ (tells : BytesTellIdentifiers) (old new : ViewSeen) (s : Search) (was :
     module _ (mark : ℕ → Option ℕ) (before : AreDepths (Links old s) T start s.max_depth mark) (flips : List Flip)
         (are : AreFlipsOf old new s mark changes flips) where
       abbrev OldLinks : ℕ → ℕ → Type 0
-      OldLinks = region.Old (Links new s) flips
+      OldLinks = region.OldLinks (Links new s) flips
 
       abbrev MidLinks : ℕ → ℕ → Type 0
       MidLinks = region.Mid (Links new s) flips

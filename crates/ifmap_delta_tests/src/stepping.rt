@@ -19,7 +19,7 @@ use ifmap_delta::{
     Moved, SubUndo, Subscribed, Subscription, change, locate_plan, notes, subscribe,
 };
 use ifmap_elem::{Copied, Many};
-use ifmap_fresh::fresh;
+use ifmap_fresh_tests::plain_search::find;
 use ifmap_graph::{Draft, Graph, Ready};
 use ifmap_plans::Plan;
 use ifmap_search::{Entry, Found, Search, SearchError};
@@ -30,26 +30,11 @@ use std::alloc::{AllocError as NoMemory, Global};
 use std::marker::Brand;
 use std::sync::ledger::{Blank, Ledger};
 
-fn find_with<V: View, L: Ledger>(
-    alloc: Global,
-    view: &V,
-    search: &Search,
-    blank: Blank,
-) -> Result<Found, SearchError>
-    requires start { IsIdentifier search.now.start }
-    requires name { blank.name ≡ L.name }
-    requires parts { blank.parts ≡ L.parts }
-    requires some { 0 < blank.parts }
-{
-    let mut steps: Steps<L> = Steps::from_blank(blank);
-    fresh(alloc, view, search, &mut steps)
-}
-
 // What the search finds.
 fn find_in<V: View>(alloc: Global, view: &V, search: &Search) -> Result<Found, Fault>
     requires { IsIdentifier search.now.start }
 {
-    match find_with::<V, Brand>(alloc, view, search, Blank::new(1)) {
+    match find(alloc, view, search) {
         Ok(found) => Ok(found),
         Err(SearchError::TooBig { .. }) => Err(Fault::TooBig),
         Err(SearchError::NoMemory) => Err(Fault::NoMemory),

@@ -1,13 +1,13 @@
 -- What a pass said stays what the machine answered, and a spent hall stays spent.
 use Rattle.std.proofs.Common.{◌≡◌, sym, ap, subst, ◌∙◌, ℕ, ◌+◌, ◌-◌, ◌^◌, ◌<◌, List, [], ◌∷◌, ◌++◌, length, append_assoc, length-append, arith}
-use Rattle.ifmap_desks.specs.Answers.{Counted, plain_answer}
+use Rattle.ifmap_desks.specs.Answers.{CountsAnswer, plain_answer}
 use Rattle.ifmap_desks.specs.Calls.{Log}
 use Rattle.ifmap_desks.specs.Machines.{CoreView, core_holds, core_next, core_reply}
 use Rattle.ifmap_desks.specs.Recalls.{AreCalls, IsCallOfEntry, Recalls}
 use Rattle.ifmap_desks.specs.declared.answers.AnswerCounts.{AnswerCounts}
 use Rattle.ifmap_desks.specs.declared.events.FitEvent.{FitEvent}
 use Rattle.ifmap_desks.specs.declared.machine.CoreMachine.{CoreMachine}
-use Rattle.ifmap_hall.specs.HallAsks.{AnsweredFromHistory, Said, SaidNothing, TookATurn}
+use Rattle.ifmap_hall.specs.HallAsks.{AnsweredFromHistory, EntersEvent, SaidNothing, TookATurn}
 use Rattle.ifmap_hall.specs.declared.book.Asked.{Asked}
 use Rattle.ifmap_hall.specs.declared.book.Asked.TheVariants.{Done, Held, Spent, NoMemory}
 use Rattle.ifmap_dialogue.specs.ifmap_machine.declared.events.Answer.{Answer}
@@ -67,7 +67,7 @@ module _ (v w : CoreView) (took : TookATurn v w) where
   recalls_silent s r = recalls_by v.mine v.said s.mine s.said (said_before r)
 
   module _ (number : ℕ) (event : FitEvent) where
-    call_said : (place : ℕ) (reply : Answer) → Said core_next core_holds core_reply v w number event place reply
+    call_said : (place : ℕ) (reply : Answer) → EntersEvent core_next core_holds core_reply v w number event place reply
         → IsCallOfEntry v.terms.opening.value w.history.log place (event, reply)
     call_said place reply s = record {
       before = s.before;
@@ -93,7 +93,7 @@ module _ (v w : CoreView) (took : TookATurn v w) where
     -- where an answer was `Spent`, the history has 2^64 - 1 entries
     pub used_up : (given : Asked FitEvent Answer) (old new : AnswerCounts)
         → AnsweredFromHistory core_next core_holds core_reply v w number event given
-        → Counted (plain_answer given) old new → (0 < old.spent → length v.history.log ≡ 2 ^ 64 - 1)
+        → CountsAnswer (plain_answer given) old new → (0 < old.spent → length v.history.log ≡ 2 ^ 64 - 1)
         → 0 < new.spent → length w.history.log ≡ 2 ^ 64 - 1
     used_up (Done place reply) old new a counted before some =
         let e : new.spent ≡ old.spent = ap (λ (x : AnswerCounts). x.spent) counted in

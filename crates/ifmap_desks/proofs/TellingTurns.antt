@@ -3,7 +3,7 @@ use Rattle.std.proofs.Common.{◌≡◌, sym, ap, subst, ◌∙◌, ℕ, List, [
 use Rattle.std.proofs.lemmas.List.Concat.{flat_map-cons}
 use Rattle.std.proofs.lemmas.List.Elements.{All-nil, All-push}
 use Rattle.std.specs.Prelude.{count_by}
-use Rattle.ifmap_desks.specs.Answers.{Counted, plain_answer}
+use Rattle.ifmap_desks.specs.Answers.{CountsAnswer, plain_answer}
 use Rattle.ifmap_desks.specs.declared.answers.AnswerCounts.{AnswerCounts}
 use Rattle.ifmap_desks.specs.declared.events.FitEvent.{FitEvent}
 use Rattle.ifmap_dialogue.specs.Desks.{Call, CountsOn, FitsAsked, Gains, CountRises, DeskTakesTurns, Turn, call_of, calls, is_held_back, is_spent}
@@ -34,7 +34,7 @@ abbrev spent_in : AnswerCounts → ℕ
 spent_in counts = counts.spent
 
 -- each of the two counts goes on where the answer is its own, and stays where it is not
-counts_rise : (old new : AnswerCounts) (event : Event) (answer : Asked Event Answer) → Counted answer old new
+counts_rise : (old new : AnswerCounts) (event : Event) (answer : Asked Event Answer) → CountsAnswer answer old new
     → CountRises (count_by is_held_back (record { event = event; asked = answer } ∷ [])) old.held new.held
     × CountRises (count_by is_spent (record { event = event; asked = answer } ∷ [])) old.spent new.spent
 counts_rise old new event (asked.Done place reply) counted =
@@ -49,7 +49,7 @@ counts_rise old new event (asked.NoMemory back) counted =
 module _ {H : Type 0} (said later : Option (List Call)) (turns taken : Option ℕ) (old new : AnswerCounts) (home same : H) (loan kept : ℕ)
   where
     pub tells : (event : Event) (answer : Asked Event Answer) → Gains said later (call_of event answer) → CountsOn turns taken 1
-        → Counted answer old new → same ≡ home → kept ≡ loan → FitsAsked event answer
+        → CountsAnswer answer old new → same ≡ home → kept ≡ loan → FitsAsked event answer
         → DeskTakesTurns {H = H} (record { said = said; turns = turns; held = old.held; spent = old.spent; home = home; loan = loan })
         (record { said = later; turns = taken; held = new.held; spent = new.spent; home = same; loan = kept })
         (record { event = event; asked = answer } ∷ [])
@@ -69,7 +69,7 @@ module _ {H : Type 0} (said later : Option (List Call)) (turns taken : Option �
     -- the same, where the event was handed on with the proof that it is fit
     pub tells_plain : (event : Event) (fit : FitEvent) → fit.event ≡ event → (given : Asked FitEvent Answer) (answer : Asked Event Answer)
         → answer ≡ plain_answer given → Gains said later (call_of fit.event (plain_answer given)) → CountsOn turns taken 1
-        → Counted answer old new
+        → CountsAnswer answer old new
         → same ≡ home → kept ≡ loan → FitsAsked fit.event (plain_answer given)
         → DeskTakesTurns {H = H} (record { said = said; turns = turns; held = old.held; spent = old.spent; home = home; loan = loan })
         (record { said = later; turns = taken; held = new.held; spent = new.spent; home = same; loan = kept })

@@ -16,8 +16,8 @@ plain_answer (Spent entries event) = Spent entries event.event
 plain_answer (NoMemory event) = NoMemory event.event
 
 -- the counts with this answer
-abbrev pub Counted : Asked Event Answer → AnswerCounts → AnswerCounts → Type 0
-Counted (Done place answer) old new = new ≡ old
-Counted (Held place event) old new = new ≡ record old { held = count_after_one old.held }
-Counted (Spent entries event) old new = new ≡ record old { spent = count_after_one old.spent }
-Counted (NoMemory event) old new = new ≡ old
+abbrev pub CountsAnswer : Asked Event Answer → AnswerCounts → AnswerCounts → Type 0
+CountsAnswer (Done place answer) old new = new ≡ old
+CountsAnswer (Held place event) old new = new ≡ record old { held = count_after_one old.held }
+CountsAnswer (Spent entries event) old new = new ≡ record old { spent = count_after_one old.spent }
+CountsAnswer (NoMemory event) old new = new ≡ old

@@ -1,6 +1,6 @@
 //! Answers of a book as a desk hands them on, and how many there were.
 ghost use Rattle.std.specs.Prelude.{◌≡◌};
-ghost use Rattle.ifmap_desks.specs.Answers.{plain_answer, Counted};
+ghost use Rattle.ifmap_desks.specs.Answers.{plain_answer, CountsAnswer};
 
 use crate::events::FitEvent;
 use ifmap_dialogue::{Answer, Event};
@@ -24,7 +24,7 @@ impl AnswerCounts {
 
     // Each count stands still at the greatest of its type.
     pub(crate) fn count(&mut self, answer: &Asked<Event, Answer>)
-        ensures { Counted answer.now self.old self.new }
+        ensures { CountsAnswer answer.now self.old self.new }
     {
         match answer {
             Asked::Done { .. } => {}

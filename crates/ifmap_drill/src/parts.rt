@@ -12,7 +12,7 @@ use rand_core::utils::NextWord;
 use rand_pcg::Lcg128Xsl64;
 use std::alloc::{AllocError as NoMemory, Global};
 
-const MARK_SPACE: &str = "urn:mapd:drill";
+const LINK_SPACE: &str = "urn:mapd:drill";
 
 // How many addresses there are.
 const ADDRESS_COUNT: u64 = 1000;
@@ -84,7 +84,7 @@ pub(crate) fn link_metadata(alloc: Global) -> Result<Metadata, NoMemory>
     attributes.push(Attribute::with_local(alloc, "ifmap-cardinality", value)?)?;
     Ok(Metadata {
         element: Element {
-            name: Name::new(alloc, MARK_SPACE, "link")?,
+            name: Name::new(alloc, LINK_SPACE, "link")?,
             attributes: Many(attributes),
             children: Many::new(alloc),
         },

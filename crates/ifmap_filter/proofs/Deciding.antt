@@ -15,7 +15,7 @@ use Rattle.ifmap_filter.specs.Reaching.{ReadsTo}
 use Rattle.ifmap_filter.specs.Texts.{BeginsFilter, StopsAt, WritesFilter, token_offset}
 use Rattle.ifmap_filter.specs.Tokens.{HasNoToken, FrontToken, Takes, token_at, without_white}
 use Rattle.ifmap_filter.proofs.Ending.{EndsAt, ends}
-use Rattle.ifmap_filter.proofs.Stepping.{IsRight, steps_right}
+use Rattle.ifmap_filter.proofs.Following.{IsRight, follows_right}
 use Rattle.ifmap_filter.proofs.Reaching.{at_start, later_length, next_place, only_taken, not_end, stops_at_end, stops_at_token, stops_where_none, taken_later, whole_text}
 
 -- (1) reading
@@ -71,7 +71,7 @@ module _ (scope : Scope) where
 
   one : (ts : List FilterToken) (n : ℕ) (w : FilterState) → n + open_parts w ≡ depth_limit → IsOne n w ts
   one [] n w e = one_at_end n w (filter_at w) (ends scope n w)
-  one (t ∷ ts) n w e = one_after n w t ts (follow_token scope w t) (λ m next f. one ts m next f) (steps_right scope n w e t)
+  one (t ∷ ts) n w e = one_after n w t ts (follow_token scope w t) (λ m next f. one ts m next f) (follows_right scope n w e t)
 
   pub tokens_are_one : (ts : List FilterToken) (f g : Filter) → IsFilter scope ts f → IsFilter scope ts g → f ≡ g
   tokens_are_one ts = one ts depth_limit Start (omega arith)

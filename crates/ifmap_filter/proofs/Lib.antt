@@ -11,6 +11,6 @@ pub mod PrintedBack
 pub mod Reaching
 pub mod SpaceLaws
 pub mod StandingLaws
-pub mod Stepping
+pub mod Following
 pub mod TextLaws
 pub mod TokenLaws

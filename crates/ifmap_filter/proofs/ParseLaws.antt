@@ -1,4 +1,4 @@
--- The steps of the loop that reads a filter, over texts in UTF-8.
+-- The turns of the loop that reads a filter, over texts in UTF-8.
 use Rattle.std.proofs.Common.{◌≡◌, ◌≢◌, ℕ, ◌-◌, ◌<◌, ◌≤◌, List, [], length, ap, sym, ◌∙◌, subst, arith, inl, inr, Some}
 use Rattle.std.specs.Prelude.{IsUtf8, chars, encode_utf8_all, Result, Ok, Err}
 use Rattle.std.proofs.lemmas.Str.{encodes-chars}
@@ -8,7 +8,7 @@ use Rattle.ifmap_filter.specs.declared.errors.FilterError.TheVariants.{NotAFilte
 use Rattle.ifmap_filter.specs.declared.filters.Filter.{Filter}
 use Rattle.ifmap_filter.specs.declared.tokens.FilterToken.{FilterToken}
 use Rattle.ifmap_filter.specs.Progress.{FilterState, Start}
-use Rattle.ifmap_filter.specs.Reaching.{IsEndAnswer, IsRefused, ReachesWhite, StepsOn}
+use Rattle.ifmap_filter.specs.Reaching.{IsEndAnswer, IsRefused, ReachesWhite, ReadsOnTo}
 use Rattle.ifmap_filter.specs.Texts.{IsParsed, StopsAt, token_offset}
 use Rattle.ifmap_filter.specs.Tokens.{Takes, front_token, token_at, without_white}
 use Rattle.ifmap_filter.proofs.CharLaws.{no_characters}
@@ -25,9 +25,9 @@ left_length after left v e =
     (λ cs. length (encode_utf8_all cs)) (sym e) in
     omega (arith, bound, same, byte_length left v)
 
-pub step_shortens : (scope : Scope) (w next : FilterState) (rest left : List ℕ) → IsUtf8 rest → StepsOn scope w rest next left
+pub reading_on_shortens : (scope : Scope) (w next : FilterState) (rest left : List ℕ) → IsUtf8 rest → ReadsOnTo scope w rest next left
     → length left < length rest
-step_shortens scope w next rest left u s =
+reading_on_shortens scope w next rest left u s =
     let less = later_bytes (chars rest) s.after (token_later s.token s.after (chars rest) s.is_there) in
     omega (arith, less, left_length s.after left s.is_text s.left_is, byte_length rest u)
 
@@ -50,12 +50,12 @@ module _ (text : List ℕ) (scope : Scope) (u : IsUtf8 text) where
     takes : (t : FilterToken) (after : List ℕ) → token_at (chars rest) ≡ Some (front_token t after) → Takes r.cs t after
     takes t after e = ap token_at (sym r.rest_is) ∙ e
 
-    pub go_on : (next : FilterState) (left : List ℕ) → StepsOn scope w rest next left → ReachesWhite text scope next left
+    pub go_on : (next : FilterState) (left : List ℕ) → ReadsOnTo scope w rest next left → ReachesWhite text scope next left
     go_on next left s = record {
       cs = s.after;
-      reached = next_place text scope w r.cs r.reached s.token s.after (takes s.token s.after s.is_there) next s.steps;
+      reached = next_place text scope w r.cs r.reached s.token s.after (takes s.token s.after s.is_there) next s.follows;
       rest_is = s.left_is;
-      within = (let l = step_shortens scope w next rest left v s in omega (arith, l, r.within));
+      within = (let l = reading_on_shortens scope w next rest left v s in omega (arith, l, r.within));
     }
 
     pub refusal_is_parsed : length rest ≢ 0 → (at : ℕ) → at ≡ length text - length rest → (e : FilterError) → IsRefused scope w rest at e

@@ -1,6 +1,6 @@
 -- What a reader has reached in the characters of a text. Plan:
 -- (1) each token takes characters from the front, so that what is left is an end of the text;
--- (2) the next place after a token for which there is a step; the stop at a token without one, the stop where no token stands, and the end;
+-- (2) the next place after a token that leads on; the stop at a token without one, the stop where no token stands, and the end;
 -- (3) each text is a filter or stops to be one,
 -- (4) and at one place alone.
 use Rattle.std.proofs.Common.{◌≡◌, ◌≢◌, ℕ, ◌<◌, ◌≤◌, Bool, true, false, List, [], ◌∷◌, ◌++◌, length, refl, ap, sym, ◌∙◌, subst, arith, Option, Some, None, append_assoc, length-append}
@@ -19,7 +19,7 @@ use Rattle.ifmap_filter.specs.Reaching.{ReadsTo}
 use Rattle.ifmap_filter.specs.Texts.{BeginsFilter, StopsAt, WritesFilter, token_offset}
 use Rattle.ifmap_filter.specs.Tokens.{HasNoToken, FrontToken, Takes, after_while, closed_literal, front_while, literal_at, name_at, name_from, name_token, part_bytes, prefixed_name_at, symbol_of, front_token, token_at, with_symbol, without_white}
 use Rattle.ifmap_filter.proofs.Ending.{EndsAt, ends, goes_on}
-use Rattle.ifmap_filter.proofs.Stepping.{IsRight, steps_right}
+use Rattle.ifmap_filter.proofs.Following.{IsRight, follows_right}
 use Rattle.ifmap_elem.specs.laws.NameBytes.{starts_are_characters}
 use Rattle.ifmap_prefixes.specs.ifmap_lexer.Cutting.{is_but}
 use Rattle.ifmap_prefixes.specs.ifmap_lexer.There.{is_quote}
@@ -166,7 +166,7 @@ module _ (text : List ℕ) (scope : Scope) where
     pub next_place : (t : FilterToken) (rest : List ℕ) → Takes cs t rest → (next : FilterState) → follow_token scope w t ≡ Some next
         → ReadsTo text scope next rest
     next_place t rest takes next is =
-        let ok = subst (IsRight scope r.room w t) is (steps_right scope r.room w r.room_is t) in
+        let ok = subst (IsRight scope r.room w t) is (follows_right scope r.room w r.room_is t) in
         record {
           tokens = r.tokens ++ t ∷ [];
           room = ok.0;
@@ -183,7 +183,7 @@ module _ (text : List ℕ) (scope : Scope) where
     pub stops_at_token : (t : FilterToken) (rest : List ℕ) → Takes cs t rest → follow_token scope w t ≡ None
         → StopsAt text scope (token_offset text cs)
     stops_at_token t rest takes is =
-        let none = subst (IsRight scope r.room w t) is (steps_right scope r.room w r.room_is t) in
+        let none = subst (IsRight scope r.room w t) is (follows_right scope r.room w r.room_is t) in
         record {
           tokens = r.tokens;
           rest = cs;

@@ -48,7 +48,7 @@ more_than_one [] p some = absurd (some refl)
 more_than_one (o ∷ []) p some = refl
 more_than_one (o ∷ (q ∷ os)) p some = refl
 
--- marks that are not allowed at a place
+-- tokens that are not allowed at a place
 
 abbrev pub IsNoName : RawToken → Type 0
 IsNoName m = (prefix local : _) → m ≢ raw.Name prefix local

@@ -1,4 +1,4 @@
--- Which tokens the marks of a text are, which borrow from it what is written there.
+-- Which token a raw one is, which borrows from the text what is written there.
 use Rattle.std.specs.Prelude.{◌≡◌, ℕ, List, chars, Option, Some}
 use Rattle.ifmap_prefixes.specs.ifmap_lexer.There.{qualified_of}
 use Rattle.ifmap_filter.specs.declared.raw_tokens.RawToken.{RawToken}

@@ -26,11 +26,11 @@ pub record ReachesWhite (text : List ℕ) (scope : Scope) (w : FilterState) (res
   pub within : length rest ≤ length text
 
 -- the token at the front leads to that place, and this is left after white space
-pub record StepsOn (scope : Scope) (w : FilterState) (rest : List ℕ) (next : FilterState) (left : List ℕ) : Type 0 where
+pub record ReadsOnTo (scope : Scope) (w : FilterState) (rest : List ℕ) (next : FilterState) (left : List ℕ) : Type 0 where
   pub token : FilterToken
   pub after : List ℕ
   pub is_there : token_at (chars rest) ≡ Some (front_token token after)
-  pub steps : follow_token scope w token ≡ Some next
+  pub follows : follow_token scope w token ≡ Some next
   pub left_is : chars left ≡ without_white after
   pub is_text : IsUtf8 left
 

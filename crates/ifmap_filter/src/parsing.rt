@@ -1,7 +1,7 @@
 //! Reads the text of a filter.
 ghost use Rattle.std.specs.Prelude.{IfErr, IfOk};
 ghost use Rattle.ifmap_filter.specs.Progress.{filter_state};
-ghost use Rattle.ifmap_filter.specs.Reaching.{IsEndAnswer, IsRefused, StepsOn};
+ghost use Rattle.ifmap_filter.specs.Reaching.{IsEndAnswer, IsRefused, ReadsOnTo};
 ghost use Rattle.ifmap_filter.specs.Texts.{IsParsed};
 
 use crate::errors::FilterError;
@@ -72,7 +72,7 @@ fn read_token<'a>(
     at: u64,
 ) -> Result<&'a str, FilterError>
     ensures next { IfOk result (λ left.
-        StepsOn scope.now (filter_state standing.old) rest.now
+        ReadsOnTo scope.now (filter_state standing.old) rest.now
         (filter_state standing.new) left.now) }
     ensures refused { IfErr result (λ e.
         IsRefused scope.now (filter_state standing.old) rest.now at e) }

@@ -9,6 +9,7 @@ pub mod looking;
 #[cfg(test)]
 mod makers;
 pub mod places;
+pub mod plain_search;
 #[cfg(test)]
 mod searches;
 pub mod shelves;

@@ -1,40 +1,15 @@
 //! What searches find, by worked examples. Places are told by last bytes of addresses.
-ghost use Rattle.std.specs.Prelude.{◌≡◌, ◌<◌};
 ghost use Rattle.ifmap_ident.specs.Canon.{IsIdentifier};
 
 use crate::lists::Lists;
 use crate::makers::{Spot, filter_in, lists_of, search_from, search_with};
 use crate::places::{Place, place_of};
+use crate::plain_search::find;
 use ifmap_elem::Many;
 use ifmap_filter::Filter;
-use ifmap_fresh::fresh;
 use ifmap_ident::Kind;
 use ifmap_search::{Entry, Found, Search, SearchError};
-use ifmap_steps::Steps;
 use std::alloc::{AllocError as NoMemory, Global};
-use std::marker::Brand;
-use std::sync::ledger::{Blank, Ledger};
-
-fn find_with<L: Ledger>(
-    alloc: Global,
-    lists: &Lists,
-    search: &Search,
-    blank: Blank,
-) -> Result<Found, SearchError>
-    requires start { IsIdentifier search.now.start }
-    requires name { blank.name ≡ L.name }
-    requires parts { blank.parts ≡ L.parts }
-    requires some { 0 < blank.parts }
-{
-    let mut steps: Steps<L> = Steps::from_blank(blank);
-    fresh(alloc, lists, search, &mut steps)
-}
-
-fn find(alloc: Global, lists: &Lists, search: &Search) -> Result<Found, SearchError>
-    requires { IsIdentifier search.now.start }
-{
-    find_with::<Brand>(alloc, lists, search, Blank::new(1))
-}
 
 fn push_entry(alloc: Global, out: &mut String, entry: &Entry) -> Result<(), NoMemory> {
     let place = place_of(alloc, entry.item.item())?;

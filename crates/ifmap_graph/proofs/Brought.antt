@@ -59,12 +59,12 @@ other_absent s (x ∷ xs) y a e = (
   other_absent s xs y a.1 e,
 )
 
--- what is none of some is none of those that are marked
-pub other_marked : (xs : List Item) (marks : List Bool) (y : Item) → IsOther xs y → IsOther (flagged_items xs marks) y
-other_marked [] marks y o = tt
-other_marked (x ∷ xs) [] y o = tt
-other_marked (x ∷ xs) (true ∷ ms) y o = (o.0, other_marked xs ms y o.1)
-other_marked (x ∷ xs) (false ∷ ms) y o = other_marked xs ms y o.1
+-- what is none of some is none of those that are flagged
+pub other_flagged : (xs : List Item) (flags : List Bool) (y : Item) → IsOther xs y → IsOther (flagged_items xs flags) y
+other_flagged [] flags y o = tt
+other_flagged (x ∷ xs) [] y o = tt
+other_flagged (x ∷ xs) (true ∷ fs) y o = (o.0, other_flagged xs fs y o.1)
+other_flagged (x ∷ xs) (false ∷ fs) y o = other_flagged xs fs y o.1
 
 other_parts : (xs ys : List Item) (x : Item) → IsOther (xs ++ ys) x → IsOther xs x × IsOther ys x
 other_parts [] ys x o = (tt, o)

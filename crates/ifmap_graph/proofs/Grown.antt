@@ -19,7 +19,7 @@ use Rattle.ifmap_graph.specs.Turning.{sides_at}
 use Rattle.ifmap_graph.proofs.Alike.{alike_equal}
 use Rattle.ifmap_graph.proofs.Brought.{brings_both, brings_none, there_still}
 use Rattle.ifmap_graph.proofs.Changed.{held_alike, names_alike, holds_with_more_room}
-use Rattle.ifmap_graph.proofs.Marks.{marked_more, marked_none}
+use Rattle.ifmap_graph.proofs.Flags.{flagged_more, flagged_none}
 use Rattle.ifmap_graph.proofs.Shelving.{Entries}
 use Rattle.ifmap_graph.specs.NumberLaws.{once_few}
 
@@ -95,28 +95,28 @@ few_holds p is few small v = by (entry_at p.names v) refl
 
 -- the items of a change get their shelves, one after another
 module _ (items : List Item) (first : GraphFields) where
-  pub record Placing (p : GraphFields) (marks : List Bool) (i : ℕ) : Type 0 where
+  pub record Placing (p : GraphFields) (flags : List Bool) (i : ℕ) : Type 0 where
     pub grown : AreGrown first p
-    pub long : length marks ≡ i
-    pub brought : BringsShelves (flagged_items items marks) first.shelves p.shelves
+    pub long : length flags ≡ i
+    pub brought : BringsShelves (flagged_items items flags) first.shelves p.shelves
     pub there : AllByRecursion (λ x. IsSome (slot_of_item p.shelves x)) (take i items)
 
-  pub begins_placing : AreInside first → (marks : List Bool) → marks ≡ [] → Placing first marks 0
-  begins_placing is marks e = record {
+  pub begins_placing : AreInside first → (flags : List Bool) → flags ≡ [] → Placing first flags 0
+  begins_placing is flags e = record {
     grown = grown_itself first is;
     long = ap length e;
     brought = subst (λ l. BringsShelves (flagged_items items l) first.shelves first.shelves) (sym e)
-        (subst (λ l. BringsShelves l first.shelves first.shelves) (sym (marked_none items))
+        (subst (λ l. BringsShelves l first.shelves first.shelves) (sym (flagged_none items))
         (brings_none first.shelves first.shelves refl (λ at. refl) (λ x. refl)));
     there = tt;
   }
 
-  module _ (p q : GraphFields) (marks : List Bool) (i : ℕ) (g : Placing p marks i) (grown : AreGrown p q) where
+  module _ (p q : GraphFields) (flags : List Bool) (i : ℕ) (g : Placing p flags i) (grown : AreGrown p q) where
     -- one that fails brings none
-    pub places_none : BringsShelves [] p.shelves q.shelves → BringsShelves (flagged_items items marks) first.shelves q.shelves
+    pub places_none : BringsShelves [] p.shelves q.shelves → BringsShelves (flagged_items items flags) first.shelves q.shelves
     places_none b =
-        subst (λ l. BringsShelves l first.shelves q.shelves) (append-nil (flagged_items items marks))
-        (brings_both (flagged_items items marks) [] first.shelves p.shelves q.shelves g.brought b)
+        subst (λ l. BringsShelves l first.shelves q.shelves) (append-nil (flagged_items items flags))
+        (brings_both (flagged_items items flags) [] first.shelves p.shelves q.shelves g.brought b)
 
     pub grown_on : AreGrown first q
     grown_on = grown_both first p q g.grown grown
@@ -131,15 +131,15 @@ module _ (items : List Item) (first : GraphFields) where
     all_snoc P [] x a h = (h, tt)
     all_snoc P (y ∷ ys) x a h = (a.0, all_snoc P ys x a.1 h)
 
-    pub places_on : (x : Item) (came : Bool) (later : List Bool) → i < length items → get_or items i x ≡ x → later ≡ marks ++ came ∷ []
+    pub places_on : (x : Item) (came : Bool) (later : List Bool) → i < length items → get_or items i x ≡ x → later ≡ flags ++ came ∷ []
         → BringsShelves (cond came (x ∷ []) []) p.shelves q.shelves → IsSome (slot_of_item q.shelves x) → Placing q later (i + 1)
     places_on x came later h is e b there = record {
       grown = grown_on;
-      long = ap length e ∙ one_longer marks came ∙ ap (λ n. n + 1) g.long;
+      long = ap length e ∙ one_longer flags came ∙ ap (λ n. n + 1) g.long;
       brought =
           subst (λ l. BringsShelves (flagged_items items l) first.shelves q.shelves) (sym e)
-          (subst (λ l. BringsShelves l first.shelves q.shelves) (sym one_mark)
-          (brings_both (flagged_items items marks) (cond came (x ∷ []) []) first.shelves p.shelves q.shelves g.brought b));
+          (subst (λ l. BringsShelves l first.shelves q.shelves) (sym one_flag)
+          (brings_both (flagged_items items flags) (cond came (x ∷ []) []) first.shelves p.shelves q.shelves g.brought b));
       there = subst (λ l. AllByRecursion (λ x. IsSome (slot_of_item q.shelves x)) l)
           (ap (λ y. take i items ++ y ∷ []) (sym is) ∙ sym (take-suc items i x h) ∙ ap (λ n. take n items) (sym (add-one i)))
           (all_snoc (λ x. IsSome (slot_of_item q.shelves x)) (take i items) x
@@ -150,12 +150,12 @@ module _ (items : List Item) (first : GraphFields) where
         one_longer [] m = refl
         one_longer (x ∷ xs) m = omega (arith, one_longer xs m)
 
-        one_mark : flagged_items items (marks ++ came ∷ []) ≡ flagged_items items marks ++ cond came (x ∷ []) []
-        one_mark =
-            marked_more items marks came x (omega (arith, h, g.long))
-            ∙ ap (λ n. flagged_items items marks ++ cond came (get_or items n x ∷ []) []) g.long
-            ∙ ap (λ y. flagged_items items marks ++ cond came (y ∷ []) []) is
+        one_flag : flagged_items items (flags ++ came ∷ []) ≡ flagged_items items flags ++ cond came (x ∷ []) []
+        one_flag =
+            flagged_more items flags came x (omega (arith, h, g.long))
+            ∙ ap (λ n. flagged_items items flags ++ cond came (get_or items n x ∷ []) []) g.long
+            ∙ ap (λ y. flagged_items items flags ++ cond came (y ∷ []) []) is
 
-  pub placed_there : (p : GraphFields) (marks : List Bool) (i : ℕ) → length items ≤ i → Placing p marks i
+  pub placed_there : (p : GraphFields) (flags : List Bool) (i : ℕ) → length items ≤ i → Placing p flags i
       → AllByRecursion (λ x. IsSome (slot_of_item p.shelves x)) items
-  placed_there p marks i h g = subst (λ l. AllByRecursion (λ x. IsSome (slot_of_item p.shelves x)) l) (take_all i items h) g.there
+  placed_there p flags i h g = subst (λ l. AllByRecursion (λ x. IsSome (slot_of_item p.shelves x)) l) (take_all i items h) g.there

@@ -47,7 +47,7 @@ pub mod Written
 pub mod Brought
 pub mod Placed
 pub mod Removing
-pub mod Marks
+pub mod Flags
 pub mod Grown
 pub mod Waits
 pub mod Made

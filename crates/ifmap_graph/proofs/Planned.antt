@@ -67,11 +67,11 @@ bare_none s bare x d =
     in let q : IsSome {T = List Stored} None = subst (λ (o : Option (List Stored)). IsSome o) n d.4 in cc
 
 -- what is stored after one change, of those that are left
-step_of : (c : ItemChange) (rest : List ItemChange) (x : Item) (was here later : List Stored)
+after_first : (c : ItemChange) (rest : List ItemChange) (x : Item) (was here later : List Stored)
     → AllByRecursion (λ y. same_item c.item y ≡ false) (items_changed rest)
     → later ≡ cond (is_at (item_order c.item) x) (next_on c.removed c.added here) was → (is_at (item_order c.item) x ≡ true → was ≡ here)
     → after_on rest x later ≡ after_on (c ∷ rest) x was
-step_of c rest x was here later apart e same = elim (cases_Bool (is_at (item_order c.item) x)) [
+after_first c rest x was here later apart e same = elim (cases_Bool (is_at (item_order c.item) x)) [
   | inl t ↦ ap (λ o. list_after o later) (no_change c.item x rest t apart) ∙ e
       ∙ ap (λ b. cond b (next_on c.removed c.added here) was) t ∙ ap (λ l. next_on c.removed c.added l) (sym (same t))
       ∙ sym (ap (λ b. list_after (cond b (Some c) (change_of rest x)) was) (items_tie c.item x ∙ t))
@@ -183,7 +183,7 @@ module _ (changes : List ItemChange) (first : Shelves) where
         apart = apart_here.1;
         fresh = still_fresh (items_changed (drop (i + 1) changes)) apart_here.0 fresh_here.1;
         left = λ x.
-            step_of c (drop (i + 1) changes) x (stored_on x (rows_on_side list_next s)) (stored_on c.item (rows_on_side list_now s))
+            after_first c (drop (i + 1) changes) x (stored_on x (rows_on_side list_next s)) (stored_on c.item (rows_on_side list_now s))
             (stored_on x (rows_on_side list_next t)) apart_here.0
             (shows x)
             (λ t. sym (stored_tied c.item x (rows_on_side list_next s) ((Equal-is (item_order c.item x)).0 t)) ∙ fresh_here.0

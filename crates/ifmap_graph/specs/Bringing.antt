@@ -20,7 +20,7 @@ use Rattle.ifmap_graph.specs.Waits.{waits_on}
 
 -- the items that are flagged
 abbrev pub flagged_items : List Item → List Bool → List Item
-flagged_items [] marks = []
+flagged_items [] flags = []
 flagged_items (x ∷ xs) [] = []
 flagged_items (x ∷ xs) (m ∷ ms) = if m then x ∷ flagged_items xs ms else flagged_items xs ms
 

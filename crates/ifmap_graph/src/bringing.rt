@@ -98,7 +98,7 @@ fn place_missing(
     Ok(true)
 }
 
-// Shelves for the items of a change that have none, and marks at those. After want of memory, some
+// Shelves for the items of a change that have none, and flags at those. After want of memory, some
 // have come.
 pub(crate) fn place_items(
     names: &mut Pool<Identifier>,

@@ -41,15 +41,15 @@ fn empty_lists(alloc: Global, n: usize) -> Result<Vec<RowList>, NoMemory>
     Ok(lists)
 }
 
-// The items of a change, and marks at those whose shelves came for it.
+// The items of a change, and flags at those whose shelves came for it.
 #[derive(Drop)]
 struct Coming<'a> {
     changes: &'a [ItemChange],
     fresh: &'a [bool],
 }
 
-// The drafts of a change whose items have shelves, of which some are marked that came for it. After
-// want of memory, those go again.
+// The drafts of a change whose items have shelves, of which those are flagged that came for it.
+// After want of memory, those go again.
 fn draft_or_take(
     names: &mut Pool<Identifier>,
     shelves: &mut Shelves,

@@ -3,7 +3,7 @@
 use Rattle.std.proofs.Common.{◌≡◌, ◌≢◌, ◌⊎◌, ℕ, ◌+◌, ◌%◌, ◌^◌, ◌<◌, ◌≤◌, List, [], ◌∷◌, length, set, true, sym, ap, subst, ◌∙◌, inl, inr, arith, length-set}
 use mathlib.Core.Option.{}
 use Rattle.atomic_table.proofs.Lists.{at_set}
-use Rattle.ifmap_hall.specs.Histories.{Extends, Ordered}
+use Rattle.ifmap_hall.specs.Histories.{Extends, OneExtendsOther}
 use Rattle.ifmap_hall.specs.Places.{times, once_below}
 use Rattle.ifmap_hall.specs.Rule.{Homes, Sits, SeatFits, AtHome, IsAway, IsInTurn}
 use Rattle.ifmap_hall.specs.SeatViews.{tickets_of, ticket_of, holds_book}
@@ -48,7 +48,7 @@ module _ {M E R : Type 0} (next : M → E → M) (weight : E → ℕ) where
         (length history.log)
     pub apart : tickets_of u.stage ≡ 1 → (j : ℕ) (x : SeatView M E R) → j ≢ id → Sits seats j x → tickets_of x.stage ≡ 1
         → ticket_of x.stage ≢ ticket_of u.stage
-    pub order : (j : ℕ) (x : SeatView M E R) → j ≢ id → Sits seats j x → 0 < x.parts → Ordered x.view.history u.view.history
+    pub order : (j : ℕ) (x : SeatView M E R) → j ≢ id → Sits seats j x → 0 < x.parts → OneExtendsOther x.view.history u.view.history
     pub alone : u.view.lone ≡ true → s.view.lone ≡ true
 
   module _ (terms : Terms M) (words : List ℕ) (homes : Homes M E R) (seats : List (SeatView M E R))
@@ -115,13 +115,13 @@ module _ {M E R : Type 0} (next : M → E → M) (weight : E → ℕ) where
       ];
       ordered = λ i j x y e f hx hy. elim (at_set seats id i u x e) [
         | inl p ↦ elim (at_set seats id j u y f) [
-          | inl q ↦ subst (λ (z : SeatView M E R). Ordered x.view.history z.view.history) (sym p.1 ∙ q.1)
+          | inl q ↦ subst (λ (z : SeatView M E R). OneExtendsOther x.view.history z.view.history) (sym p.1 ∙ q.1)
               (inl (extends-itself x.view.history))
-          | inr q ↦ subst (λ (z : SeatView M E R). Ordered z.view.history y.view.history) p.1
+          | inr q ↦ subst (λ (z : SeatView M E R). OneExtendsOther z.view.history y.view.history) p.1
               (ordered_again y.view.history u.view.history (g.order j y q.0 q.1 hy))
         ]
         | inr p ↦ elim (at_set seats id j u y f) [
-          | inl q ↦ subst (λ (z : SeatView M E R). Ordered x.view.history z.view.history) q.1 (g.order i x p.0 p.1 hx)
+          | inl q ↦ subst (λ (z : SeatView M E R). OneExtendsOther x.view.history z.view.history) q.1 (g.order i x p.0 p.1 hx)
           | inr q ↦ k.ordered i j x y p.1 q.1 hx hy
         ]
       ];

@@ -8,7 +8,7 @@ use Rattle.std.proofs.lemmas.Bool.Decides.{nat_tests}
 use Rattle.std.proofs.lemmas.Bool.{cases_lt, true≢false}
 use Rattle.atomic_table.specs.Table.{Splits}
 use Rattle.atomic_table.proofs.Lists.{at_set, set_else, at_snoc, at_longer}
-use Rattle.ifmap_hall.specs.Histories.{Ordered}
+use Rattle.ifmap_hall.specs.Histories.{OneExtendsOther}
 use Rattle.ifmap_hall.specs.Places.{times}
 use Rattle.ifmap_hall.specs.Rule.{Homes, Sits, SeatFits, AtHome, IsAway, IsInTurn, Keeps}
 use Rattle.ifmap_hall.specs.SeatViews.{share_of, tickets_of, holds_book, kept_seat, given_seat}
@@ -42,9 +42,10 @@ module _ {M E R : Type 0} (next : M → E → M) (weight : E → ℕ) where
 
   pub stems_ordered : (terms : Terms M) (words : List ℕ) (homes : Homes M E R) (seats : List (SeatView M E R))
       (k : IsInTurn next weight terms words homes seats)
-      (x y : SeatView M E R) → Stems seats x → Stems seats y → Ordered x.view.history y.view.history
+      (x y : SeatView M E R) → Stems seats x → Stems seats y → OneExtendsOther x.view.history y.view.history
   stems_ordered terms words homes seats k x y a b =
-      subst (λ (h : HallHistory E). Ordered h y.view.history) a.seen (subst (λ (h : HallHistory E). Ordered a.old.view.history h) b.seen
+      subst (λ (h : HallHistory E). OneExtendsOther h y.view.history) a.seen
+      (subst (λ (h : HallHistory E). OneExtendsOther a.old.view.history h) b.seen
       (k.ordered a.index b.index a.old b.old a.sits b.sits a.part b.part))
 
   -- where a seat of the new list comes from

@@ -2,7 +2,7 @@
 use Rattle.std.proofs.Common.{◌≡◌, ℕ, ◌+◌, List, [], ◌∷◌, ◌++◌, length, true, false, sym, ap, ◌∙◌, inl, inr, arith, append-nil, append_assoc, length-append}
 use Rattle.std.proofs.lemmas.Bool.Decides.{nat_tests}
 use Rattle.std.proofs.lemmas.List.{nil_from_length}
-use Rattle.ifmap_hall.specs.Histories.{Extends, Ordered, GainsAtMostOne}
+use Rattle.ifmap_hall.specs.Histories.{Extends, OneExtendsOther, GainsAtMostOne}
 use Rattle.ifmap_hall.specs.Views.{is_later}
 use Rattle.ifmap_hall.specs.declared.view.HallHistory.{HallHistory}
 
@@ -22,16 +22,16 @@ module _ {E : Type 0} where
   pub log_length : (h k : HallHistory E) (a : Extends h k) → length k.log ≡ length h.log + length a.rest
   log_length h k a = ap length a.whole ∙ length-append h.log a.rest
 
-  pub ordered_again : (h k : HallHistory E) → Ordered h k → Ordered k h
+  pub ordered_again : (h k : HallHistory E) → OneExtendsOther h k → OneExtendsOther k h
   ordered_again h k (inl a) = inr a
   ordered_again h k (inr a) = inl a
 
   -- the later of two is the one that extends the other
-  pub later_extends : (h k : HallHistory E) → Ordered h k → is_later h k ≡ true → Extends h k
+  pub later_extends : (h k : HallHistory E) → OneExtendsOther h k → is_later h k ≡ true → Extends h k
   later_extends h k (inl a) e = a
   later_extends h k (inr a) e = let x = a.from in let l = log_length k h a in absurd (grind (arith, nat_tests))
 
-  pub earlier_extends : (h k : HallHistory E) → Ordered h k → is_later h k ≡ false → Extends k h
+  pub earlier_extends : (h k : HallHistory E) → OneExtendsOther h k → is_later h k ≡ false → Extends k h
   earlier_extends h k (inr a) e = a
   earlier_extends h k (inl a) e =
       let x = a.from in

@@ -7,7 +7,7 @@ use mathlib.Core.Option.{some-injective}
 use lib.ListN.{get_elem?}
 use Rattle.atomic_table.specs.Table.{Joins}
 use Rattle.atomic_table.proofs.Lists.{at_set, set_else}
-use Rattle.ifmap_hall.specs.Histories.{Extends, Ordered}
+use Rattle.ifmap_hall.specs.Histories.{Extends, OneExtendsOther}
 use Rattle.ifmap_hall.specs.Places.{times}
 use Rattle.ifmap_hall.specs.Rule.{Homes, Sits, SeatFits, AtHome, IsAway, IsInTurn, Keeps}
 use Rattle.ifmap_hall.specs.SeatViews.{tickets_of, holds_book, joint_seat, spent_seat}
@@ -31,11 +31,11 @@ pub record Joint {E : Type 0} (h k late early : HallHistory E) : Type 0 where
   pub rest : Extends early late
 
 module _ {E : Type 0} where
-  joint_by : (h k : HallHistory E) (b : Bool) → is_later h k ≡ b → Ordered h k → Joint h k (cond b k h) (cond b h k)
+  joint_by : (h k : HallHistory E) (b : Bool) → is_later h k ≡ b → OneExtendsOther h k → Joint h k (cond b k h) (cond b h k)
   joint_by h k true e o = let x = later_extends h k o e in record { one = inr refl; this = x; that = extends-itself k; rest = x }
   joint_by h k false e o = let x = earlier_extends h k o e in record { one = inl refl; this = extends-itself h; that = x; rest = x }
 
-  pub joint_of : (h k : HallHistory E) → Ordered h k → Joint h k (cond (is_later h k) k h) (cond (is_later h k) h k)
+  pub joint_of : (h k : HallHistory E) → OneExtendsOther h k → Joint h k (cond (is_later h k) k h) (cond (is_later h k) h k)
   joint_of h k o = joint_by h k (is_later h k) refl o
 
 module _ {M E R : Type 0} (next : M → E → M) (weight : E → ℕ) where

@@ -5,7 +5,7 @@ use Rattle.std.proofs.lemmas.Bool.Decides.{nat_tests}
 use mathlib.Core.Option.{some}
 use Rattle.std.specs.Prelude.{Option, Some}
 use Rattle.std.specs.List.{sum_by}
-use Rattle.ifmap_hall.specs.Histories.{Ordered, BookStandsFor, no_history}
+use Rattle.ifmap_hall.specs.Histories.{OneExtendsOther, BookStandsFor, no_history}
 use Rattle.ifmap_hall.specs.Places.{times}
 use Rattle.ifmap_hall.specs.Rule.{Sits, SeatFits, IsInTurn}
 use Rattle.ifmap_hall.specs.SeatViews.{tickets_of, holds_book, first_seat}
@@ -77,7 +77,7 @@ module _ {M E R : Type 0} (next : M → E → M) (weight : E → ℕ) where
           held = λ q. absurd (true≢false (sym q));
           lone = λ _. refl;
         });
-        ordered = λ i j x y h k _ _. subst (λ (z : SeatView M E R). Ordered x.view.history z.view.history)
+        ordered = λ i j x y h k _ _. subst (λ (z : SeatView M E R). OneExtendsOther x.view.history z.view.history)
             (sym (is i x h).1 ∙ (is j y k).1) (inl (extends-itself x.view.history));
         alone = λ i x h _. refl;
       }

@@ -3,7 +3,7 @@ use Rattle.std.proofs.Common.{◌≡◌, ℕ, ◌<◌, List, [], ◌∷◌, refl
 use Rattle.std.proofs.lemmas.Option.{same_Some}
 use Rattle.std.specs.Prelude.{Option, Some, None}
 use Rattle.atomic_table.specs.Table.{rest}
-use Rattle.ifmap_hall.specs.Plays.{Seated, FindsBook, Served, WentOn}
+use Rattle.ifmap_hall.specs.Plays.{Seated, FindsBook, TakesBook, WentOn}
 use Rattle.ifmap_hall.specs.SeatViews.{with_ticket, with_book, after_turn, HoldsBook, IsAtRest, IsWaiting}
 use Rattle.ifmap_hall.specs.declared.book.Book.{Book}
 use Rattle.ifmap_hall.specs.declared.view.HallHistory.{HallHistory}
@@ -29,7 +29,7 @@ module _ {M E R : Type 0} where
   module _ (next : M → E → M) (weight : E → ℕ) where
     -- what was in the slot is a book that the pass may find
     pub finds_book : (m n o : Seated M E R) (t : ℕ) (found : Option (Book M E R)) (book : Book M E R) → n ≡ (with_ticket m.0 t, [])
-        → (s : Served next weight n.0 o)
+        → (s : TakesBook next weight n.0 o)
         → o.1 ≡ (0, found) ∷ rest o.1 → found ≡ Some book → FindsBook next weight m.0.view s.0 book
     finds_book m n o t found book drawn s lies is =
         let same = first_is o.1 s.1 book (rest o.1) (ap (λ p. p.1) s.3) (lies ∙ ap (λ (r : Option (Book M E R)). (0, r) ∷ rest o.1) is) in
@@ -37,7 +37,7 @@ module _ {M E R : Type 0} where
         (subst (λ (p : Seated M E R). FindsBook next weight p.0.view s.0 s.1) drawn s.2)
 
     -- the seat with the book that it gives back
-    pub brings_book : (m n o p q : Seated M E R) (t : ℕ) (b : Book M E R) → n ≡ (with_ticket m.0 t, []) → (s : Served next weight n.0 o)
+    pub brings_book : (m n o p q : Seated M E R) (t : ℕ) (b : Book M E R) → n ≡ (with_ticket m.0 t, []) → (s : TakesBook next weight n.0 o)
         → p ≡ (o.0, (0, None) ∷ rest o.1) → q ≡ (p.0, (0, Some b) ∷ rest p.1) → q ≡ (with_book (with_ticket m.0 t) s.0, (0, Some b) ∷ [])
     brings_book m n o p q t b drawn s emptied filled =
         filled ∙ ap (λ (r : Seated M E R). (r.0, (0, Some b) ∷ rest r.1)) emptied

@@ -12,7 +12,7 @@ use Rattle.std.proofs.Common.{◌≡◌, ℕ, ◌+◌, ◌-◌, ◌^◌, ◌<◌
 use Rattle.std.proofs.lemmas.List.{nil_from_length, take-append-drop}
 use Rattle.std.proofs.Math.Seq.{drop-append_seam, drop-length}
 use Rattle.ifmap_hall.specs.Answers.{IfDone, IfHeld, IfSpent, IfNoMemory}
-use Rattle.ifmap_hall.specs.HallAsks.{TookATurn, SaidNothing, Said, AnsweredFromHistory, Turned}
+use Rattle.ifmap_hall.specs.HallAsks.{TookATurn, SaidNothing, EntersEvent, AnsweredFromHistory, TakesTurn}
 use Rattle.ifmap_hall.specs.Books.{IsBook, sight_of, end_of_book}
 use Rattle.ifmap_hall.specs.Histories.{Extends, GainsAtMostOne, history_in}
 use Rattle.ifmap_hall.specs.Plays.{FindsBook, Gives}
@@ -186,7 +186,7 @@ module _ {M E R : Type 0} (next : M → E → M) (weight : E → ℕ) (holds_on 
       said_by : (number place : ℕ) (event : E) (r : R) → Grew ((number, event) ∷ []) → place ≡ length h.log → place < 2 ^ 64 - 1
           → holds_on (run next v.terms.opening.value h.log) event ≡ false
           → r ≡ reply (run next v.terms.opening.value h.log) event
-          → Said next holds_on reply v (view_after next reply v h b') number event place r
+          → EntersEvent next holds_on reply v (view_after next reply v h b') number event place r
       said_by number place event r g at numbered free answer =
           let gained : drop (length h.log) (history_in h b').log ≡ (number, event) ∷ [] = ap (drop (length h.log)) g.all
           ∙ drop-append_seam h.log ((number, event) ∷ []) in
@@ -263,7 +263,7 @@ module _ {M E R : Type 0} (next : M → E → M) (weight : E → ℕ) (holds_on 
           )
 
       pub turn_keeps_promise : (number : ℕ) (event : E) (answer : Asked E R) → TurnEnsures b b' number event answer
-          → Turned next weight holds_on reply v h b' number event answer
+          → TakesTurn next weight holds_on reply v h b' number event answer
       turn_keeps_promise number event answer u =
           let g = grew_as_told number event answer u in
           let few = few_told number event answer in

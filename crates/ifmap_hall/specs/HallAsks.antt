@@ -31,7 +31,7 @@ module _ {M E R : Type 0} where
   module _ (next : M → E → M) (holds_on : M → E → Bool) (reply : M → E → R) where
     -- the event is the last entry of the history, at this place, with the reply of the machine after the entries before it, which
     -- would not have held on it; if the pass was never split from, these are the entries that it had seen
-    pub record Said (v w : HallView M E R) (number : ℕ) (event : E) (place : ℕ) (r : R) : Type 0 where
+    pub record EntersEvent (v w : HallView M E R) (number : ℕ) (event : E) (place : ℕ) (r : R) : Type 0 where
       pub before : List (ℕ × E)
       pub entry : w.history.log ≡ before ++ (number, event) ∷ []
       pub place_is : length before ≡ place
@@ -46,7 +46,7 @@ module _ {M E R : Type 0} where
 
     -- what each answer says of the whole history, from the opening state on
     abbrev pub AnsweredFromHistory : HallView M E R → HallView M E R → ℕ → E → Asked E R → Type 0
-    AnsweredFromHistory v w number event (Done place r) = Said v w number event place r
+    AnsweredFromHistory v w number event (Done place r) = EntersEvent v w number event place r
     AnsweredFromHistory v w number event (Held place back) =
         (back ≡ event) × (length w.history.log ≡ place) × (place < 2 ^ 64 - 1)
         × (holds_on (run next v.terms.opening.value w.history.log) event ≡ true) × SaidNothing v w
@@ -67,7 +67,8 @@ module _ {M E R : Type 0} where
 
   module _ (next : M → E → M) (weight : E → ℕ) (holds_on : M → E → Bool) (reply : M → E → R) where
     -- a turn of a pass that found this history and leaves this book
-    pub record Turned (v : HallView M E R) (h : HallHistory E) (b : Book M E R) (number : ℕ) (event : E) (answer : Asked E R) : Type 0 where
+    pub record TakesTurn (v : HallView M E R) (h : HallHistory E) (b : Book M E R) (number : ℕ) (event : E) (answer : Asked E R)
+        : Type 0 where
       pub gives : Gives next weight v.terms h b
       pub took : TookATurn v (view_after next reply v h b)
       pub answered : AnsweredFromHistory next holds_on reply v (view_after next reply v h b) number event answer

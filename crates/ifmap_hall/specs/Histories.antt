@@ -18,8 +18,8 @@ module _ {E : Type 0} where
     pub whole : later.log ≡ earlier.log ++ rest
 
   -- of two histories one extends the other
-  abbrev pub Ordered : HallHistory E → HallHistory E → Type 0
-  Ordered h k = Extends h k ⊎ Extends k h
+  abbrev pub OneExtendsOther : HallHistory E → HallHistory E → Type 0
+  OneExtendsOther h k = Extends h k ⊎ Extends k h
 
   -- the later list has one entry more or none
   abbrev pub GainsAtMostOne : List (ℕ × E) → List (ℕ × E) → Type 0

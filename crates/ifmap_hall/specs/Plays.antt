@@ -32,13 +32,13 @@ module _ {M E R : Type 0} where
       pub lone : v.lone ≡ true → v.history ≡ h
 
     -- the seat took the book
-    abbrev pub Served : SeatView M E R → Seated M E R → Type 0
-    Served s after = (h : HallHistory E) × (b : Book M E R) × FindsBook s.view h b × (after ≡ (with_book s h, (0, Some b) ∷ []))
+    abbrev pub TakesBook : SeatView M E R → Seated M E R → Type 0
+    TakesBook s after = (h : HallHistory E) × (b : Book M E R) × FindsBook s.view h b × (after ≡ (with_book s h, (0, Some b) ∷ []))
 
     -- look: where its ticket is served the seat took the book, and elsewhere nothing changed
     abbrev pub Looks : Step (Option (Book M E R)) → Seated M E R → ℕ → Seated M E R → Type 0
     Looks s me n after =
-        (n ≡ ticket_of me.0.stage % 2 ^ 64 → Served me.0 after)
+        (n ≡ ticket_of me.0.stage % 2 ^ 64 → TakesBook me.0 after)
         × (n ≢ ticket_of me.0.stage % 2 ^ 64 → after ≡ me)
 
     -- the book that a seat gives back stands for the history that was taken, with one entry more or none, of which as many

@@ -3,7 +3,7 @@ use Rattle.std.specs.Prelude.{◌≡◌, ◌⊎◌, ℕ, ◌+◌, ◌-◌, ◌%�
 use mathlib.Core.Option.{Option as Maybe, some, none}
 use lib.ListN.{get_elem?}
 use Rattle.atomic_table.specs.Table.{State}
-use Rattle.ifmap_hall.specs.Histories.{Extends, Ordered, BookStandsFor}
+use Rattle.ifmap_hall.specs.Histories.{Extends, OneExtendsOther, BookStandsFor}
 use Rattle.ifmap_hall.specs.Places.{times, once_below}
 use Rattle.ifmap_hall.specs.SeatViews.{tickets_of, ticket_of, taken_of, holds_book}
 use Rattle.ifmap_hall.specs.Views.{IsSoundView}
@@ -68,7 +68,7 @@ module _ {M E R : Type 0} where
       pub fit : (i : ℕ) (s : SeatView M E R) → Sits seats i s → 0 < s.parts → SeatFits terms history served drawn s
       -- of each two seats that are not spent one has seen what the other has seen
       pub ordered : (i j : ℕ) (s u : SeatView M E R) → Sits seats i s → Sits seats j u → 0 < s.parts → 0 < u.parts
-          → Ordered s.view.history u.view.history
+          → OneExtendsOther s.view.history u.view.history
       pub alone : (i : ℕ) (s : SeatView M E R) → Sits seats i s → s.view.lone ≡ true → length seats ≡ 1
 
     -- the rule of a table

@@ -2,8 +2,8 @@
 ghost use Rattle.std.specs.Prelude.{◌≡◌, ◌≢◌, ℕ, ◌+◌, ◌%◌, ◌^◌, ◌<◌, ◌≤◌, [], ◌∷◌, ◌++◌, length};
 ghost use Rattle.ifmap_hall.specs.Books.{IsBook};
 ghost use Rattle.ifmap_hall.specs.SeatViews.{ticket_of, IsAtRest, IsWaiting};
-ghost use Rattle.ifmap_hall.specs.Plays.{FindsBook, Served};
-ghost use Rattle.ifmap_hall.specs.HallAsks.{TookATurn, AnsweredFromHistory, Turned};
+ghost use Rattle.ifmap_hall.specs.Plays.{FindsBook, TakesBook};
+ghost use Rattle.ifmap_hall.specs.HallAsks.{TookATurn, AnsweredFromHistory, TakesTurn};
 
 use crate::book::{Asked, Book};
 use crate::machine::Machine;
@@ -31,7 +31,7 @@ pub(crate) fn await_turn<M: Machine, R: Wait>(
     requires waits { IsWaiting seat.old.me }
     requires ticket { ticket ≡ ticket_of seat.old.me.0.stage % 2 ^ 64 }
     ensures own { (seat.new.table_id ≡ seat.old.table_id) × (seat.new.id ≡ seat.old.id) }
-    ensures served { Served M.next M.weight_of seat.old.me.0 seat.new.me }
+    ensures served { TakesBook M.next M.weight_of seat.old.me.0 seat.new.me }
 {
     let mut looks = 0u32;
     for _ in rt.forever() {
@@ -67,7 +67,7 @@ where
     requires light { M.weight_of event ≤ book.old.heaviest }
     ensures { (v : HallView M M.Event M.Reply) (h : HallHistory M.Event)
         → FindsBook M.next M.weight_of v h book.old
-        → Turned M.next M.weight_of M.holds_on M.reply v h book.new number event result }
+        → TakesTurn M.next M.weight_of M.holds_on M.reply v h book.new number event result }
 {
     book.turn(alloc, number, event)
 }

@@ -3,7 +3,7 @@ ghost use Rattle.std.specs.Prelude.{◌≡◌, ◌≢◌, ℕ, ◌+◌, ◌%◌,
 ghost use Rattle.ifmap_hall.specs.SeatViews.{with_ticket, kept_seat, given_seat, joint_seat};
 ghost use Rattle.ifmap_hall.specs.SeatViews.{ticket_of, IsSoundSeat};
 ghost use Rattle.ifmap_hall.specs.SeatViews.{IsAtRest, IsWaiting, HoldsBook};
-ghost use Rattle.ifmap_hall.specs.Plays.{Served, Brings, WentOn};
+ghost use Rattle.ifmap_hall.specs.Plays.{TakesBook, Brings, WentOn};
 
 use crate::book::Book;
 use crate::machine::Machine;
@@ -36,7 +36,7 @@ pub(crate) fn look<M: Machine>(table: &HallTable<M>, seat: &mut HallSeat<M>) -> 
     requires waits { IsWaiting seat.old.me }
     ensures own { (seat.new.table_id ≡ seat.old.table_id) × (seat.new.id ≡ seat.old.id) }
     ensures served { result ≡ ticket_of seat.old.me.0.stage % 2 ^ 64
-        → Served M.next M.weight_of seat.old.me.0 seat.new.me }
+        → TakesBook M.next M.weight_of seat.old.me.0 seat.new.me }
     ensures not_yet { result ≢ ticket_of seat.old.me.0.stage % 2 ^ 64
         → seat.new.me ≡ seat.old.me }
 {

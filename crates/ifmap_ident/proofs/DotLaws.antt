@@ -33,15 +33,15 @@ dots_end b (c ∷ cs) h =
     let rest = dots_end c cs (and_parts (is_dot b) (list_all is_dot (c ∷ cs)) h).1 in
     (b ∷ rest.0, ap (λ ys. b ∷ ys) rest.1)
 
-kept_step : (b : ℕ) (bs cut : List ℕ) (t : Bool) → list_all is_dot (b ∷ bs) ≡ t → (t ≡ true → ⊥) → cut ≡ bs
+kept_by_case : (b : ℕ) (bs cut : List ℕ) (t : Bool) → list_all is_dot (b ∷ bs) ≡ t → (t ≡ true → ⊥) → cut ≡ bs
     → cond t [] (b ∷ cut) ≡ b ∷ bs
-kept_step b bs cut true e differs same = absurd (differs refl)
-kept_step b bs cut false e differs same = ap (λ ys. b ∷ ys) same
+kept_by_case b bs cut true e differs same = absurd (differs refl)
+kept_by_case b bs cut false e differs same = ap (λ ys. b ∷ ys) same
 
 no_dot_kept : (xs : List ℕ) → ((front : List ℕ) → xs ≢ front ++ byte "." ∷ []) → without_last_dots xs ≡ xs
 no_dot_kept [] f = refl
 no_dot_kept (b ∷ bs) f =
-    kept_step b bs (without_last_dots bs) (list_all is_dot (b ∷ bs)) refl
+    kept_by_case b bs (without_last_dots bs) (list_all is_dot (b ∷ bs)) refl
     (λ all. let d = dots_end b bs all in f d.0 d.1)
     (no_dot_kept bs (λ front e. f (b ∷ front) (ap (λ ys. b ∷ ys) e)))
 

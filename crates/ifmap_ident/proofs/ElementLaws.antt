@@ -253,19 +253,19 @@ outer_fits name h some =
     (sym (append-nil (elements_of_child (the.Element (name_inside name))) ∙ elements_in (name_inside name)))
     (inner_fits name h some))
 
-filter_step : (p : Child → Bool) (c : Child) (cs : List Child) (b : Bool) → p c ≡ b → AllByRecursion IsFitAlone (elements_of_child c)
+filter_by_case : (p : Child → Bool) (c : Child) (cs : List Child) (b : Bool) → p c ≡ b → AllByRecursion IsFitAlone (elements_of_child c)
     → AllByRecursion IsFitAlone (flat_map elements_of_child (filter p cs))
     → AllByRecursion IsFitAlone (flat_map elements_of_child (filter p (c ∷ cs)))
-filter_step p c cs true e here later =
+filter_by_case p c cs true e here later =
     rw e (both_all IsFitAlone (elements_of_child c) (flat_map elements_of_child (filter p cs)) here later)
-filter_step p c cs false e here later = rw e later
+filter_by_case p c cs false e here later = rw e later
 
 filtered_fit : (p : Child → Bool) (cs : List Child) → AllByRecursion IsFitAlone (flat_map elements_of_child cs)
     → AllByRecursion IsFitAlone (flat_map elements_of_child (filter p cs))
 filtered_fit p [] f = tt
 filtered_fit p (c ∷ cs) f =
     let parts = all_both IsFitAlone (elements_of_child c) (flat_map elements_of_child cs) f in
-    filter_step p c cs (p c) refl parts.0 (filtered_fit p cs parts.1)
+    filter_by_case p c cs (p c) refl parts.0 (filtered_fit p cs parts.1)
 
 device_name_characters : (e : Element) (name : List ℕ) → IsFit e → IsDevice e name → IsCharacters name
 device_name_characters e name fit p =

@@ -98,12 +98,12 @@ one_identity e n k o d m l s c p q =
     let names : n ≡ m = one_kept (name_form k o) p.text n m p.kept kept in
     λ i. Identity (names i) (kinds i) (others i) ((p.domain_is ∙ sym q.domain_is) i)
 
-one_ip : (kind : List ℕ) (Means : List ℕ → List ℕ → Type 0) (single : (text v w : List ℕ) → Means text v → Means text w → v ≡ w)
-    (Made : List ℕ → List ℕ → Identifier) (e : Element) (v d w c : List ℕ) → IsIpAddress kind Means e v d → IsIpAddress kind Means e w c
+one_ip : (kind : List ℕ) (IsAddress : List ℕ → List ℕ → Type 0) (single : (text v w : List ℕ) → IsAddress text v → IsAddress text w → v ≡ w)
+    (Made : List ℕ → List ℕ → Identifier) (e : Element) (v d w c : List ℕ) → IsIpAddress kind IsAddress e v d → IsIpAddress kind IsAddress e w c
     → Made v d ≡ Made w c
-one_ip kind Means single Made e v d w c p q =
+one_ip kind IsAddress single Made e v d w c p q =
     let texts : p.text ≡ q.text = one_of (value_of (codes "value") e) p.text q.text p.text_is q.text_is in
-    let values : v ≡ w = single p.text v w p.means (subst (λ t. Means t w) (sym texts) q.means) in
+    let values : v ≡ w = single p.text v w p.means (subst (λ t. IsAddress t w) (sym texts) q.means) in
     λ i. Made (values i) ((p.domain_is ∙ sym q.domain_is) i)
 
 one_mac : (e : Element) (v d w c : List ℕ) → IsMacAddressElement e v d → IsMacAddressElement e w c → MacAddress v d ≡ MacAddress w c

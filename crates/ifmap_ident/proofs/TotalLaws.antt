@@ -146,9 +146,9 @@ definition_or_none types.TelUri given = inl ([], refl)
 
 -- ---- addresses
 
-address_or_none : (kind : List ℕ) (Means : List ℕ → List ℕ → Type 0) → ((text : List ℕ) → Decided ((value : List ℕ) × Means text value))
-    → (e : Element) → Decided ((value domain : List ℕ) × IsIpAddress kind Means e value domain)
-address_or_none kind Means decides e =
+address_or_none : (kind : List ℕ) (IsAddress : List ℕ → List ℕ → Type 0) → ((text : List ℕ) → Decided ((value : List ℕ) × IsAddress text value))
+    → (e : Element) → Decided ((value domain : List ℕ) × IsIpAddress kind IsAddress e value domain)
+address_or_none kind IsAddress decides e =
     decided_by
     (λ p. (
       p.1.2.0,
@@ -165,7 +165,7 @@ address_or_none kind Means decides e =
     (λ t. ((t.2.children, t.2.kind_is), (t.2.text, t.2.text_is, (t.0, t.2.means))))
     (decided_both (decided_both (decided_test (is_blank_inside e))
     (same_or_not (unwrap_or (value_of (codes "type") e) (codes "IPv4")) kind))
-    (value_with (value_of (codes "value") e) (λ text. (value : List ℕ) × Means text value) decides))
+    (value_with (value_of (codes "value") e) (λ text. (value : List ℕ) × IsAddress text value) decides))
 
 mac_or_none : ((text : List ℕ) → Decided ((value : List ℕ) × IsMacAddress text value)) → (e : Element)
     → Decided ((value domain : List ℕ) × IsMacAddressElement e value domain)

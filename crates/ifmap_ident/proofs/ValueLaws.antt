@@ -53,16 +53,16 @@ address_characters text h = (
 
 -- ---- values
 
-found_step : (x : Attribute) (b : Bool) (rest : Option Attribute) (text : List ℕ) → IsCharacters x.value
+found_by_case : (x : Attribute) (b : Bool) (rest : Option Attribute) (text : List ℕ) → IsCharacters x.value
     → (option_map (λ a. a.value) rest ≡ Some text → IsCharacters text) → option_map (λ a. a.value) (cond b (Some x) rest) ≡ Some text
     → IsCharacters text
-found_step x true rest text here later e = subst IsCharacters (same_Some x.value text e) here
-found_step x false rest text here later e = later e
+found_by_case x true rest text here later e = subst IsCharacters (same_Some x.value text e) here
+found_by_case x false rest text here later e = later e
 
 found_characters : (p : Attribute → Bool) (xs : List Attribute) (text : List ℕ) → AllByRecursion IsFitAttribute xs
     → option_map (λ a. a.value) (find p xs) ≡ Some text → IsCharacters text
 found_characters p [] text f e = absurd cc
-found_characters p (x ∷ xs) text f e = found_step x (p x) (find p xs) text f.0.value (found_characters p xs text f.1) e
+found_characters p (x ∷ xs) text f e = found_by_case x (p x) (find p xs) text f.0.value (found_characters p xs text f.1) e
 
 pub value_characters : (local : List ℕ) (e : Element) (text : List ℕ) → IsFit e → value_of local e ≡ Some text → IsCharacters text
 value_characters local e text fit is =
@@ -92,14 +92,14 @@ definition_characters types.TelUri given other f d = subst IsCharacters (sym d) 
 
 -- ---- names of domains
 
-over_step : (t u : Bool) (b : ℕ) (ys zs : List ℕ) → t ≡ false → ys ≡ zs → cond (t && u) [] (b ∷ ys) ≡ b ∷ zs
-over_step true u b ys zs e q = absurd cc
-over_step false u b ys zs e q = ap (λ x. b ∷ x) q
+over_by_case : (t u : Bool) (b : ℕ) (ys zs : List ℕ) → t ≡ false → ys ≡ zs → cond (t && u) [] (b ∷ ys) ≡ b ∷ zs
+over_by_case true u b ys zs e q = absurd cc
+over_by_case false u b ys zs e q = ap (λ x. b ∷ x) q
 
 over_others : (xs rest : List ℕ) → AllAre (λ b. not (is_dot b)) xs → without_last_dots (xs ++ rest) ≡ xs ++ without_last_dots rest
 over_others [] rest f = refl
 over_others (b ∷ xs) rest f =
-    over_step (is_dot b) (list_all is_dot (xs ++ rest)) b (without_last_dots (xs ++ rest)) (xs ++ without_last_dots rest)
+    over_by_case (is_dot b) (list_all is_dot (xs ++ rest)) b (without_last_dots (xs ++ rest)) (xs ++ without_last_dots rest)
     (not-true (is_dot b) f.0) (over_others xs rest f.1)
 
 high_is_no_dot : (b : ℕ) → 128 ≤ b → not (is_dot b) ≡ true

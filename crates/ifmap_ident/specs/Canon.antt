@@ -58,12 +58,12 @@ pub record IsIdentity (e : Element) (name : List ℕ) (kind : IdentityType) (oth
   pub domain_is : domain ≡ domain_of e
 
 -- an address of this type, which is that of IPv4 where none is given
-pub record IsIpAddress (kind : List ℕ) (Means : List ℕ → List ℕ → Type 0) (e : Element) (value domain : List ℕ) : Type 0 where
+pub record IsIpAddress (kind : List ℕ) (IsAddress : List ℕ → List ℕ → Type 0) (e : Element) (value domain : List ℕ) : Type 0 where
   pub children : IsTrue (is_blank_inside e)
   pub kind_is : unwrap_or (value_of (codes "type") e) (codes "IPv4") ≡ kind
   pub text : List ℕ
   pub text_is : value_of (codes "value") e ≡ Some text
-  pub means : Means text value
+  pub means : IsAddress text value
   pub domain_is : domain ≡ domain_of e
 
 pub record IsMacAddressElement (e : Element) (value domain : List ℕ) : Type 0 where

@@ -27,8 +27,8 @@ past base v d some big =
     let one : 0x11_0000 * 1 ≤ v * base = mul-le-mul big some in
     omega arith
 
-capped_step : (base v n d : ℕ) → 1 ≤ base → n ≡ min v 0x11_0000 → min (n * base + d) 0x11_0000 ≡ min (v * base + d) 0x11_0000
-capped_step base v n d some e =
+capped_next : (base v n d : ℕ) → 1 ≤ base → n ≡ min v 0x11_0000 → min (n * base + d) 0x11_0000 ≡ min (v * base + d) 0x11_0000
+capped_next base v n d some e =
     elim (cases_lt v 0x11_0000) [
       | inl l ↦ let same : n ≡ v = omega arith in ap (λ x. min (x * base + d) 0x11_0000) same
       | inr g ↦ let same : n ≡ 0x11_0000 = omega arith in ap (λ x. min (x * base + d) 0x11_0000) same ∙ past base v d some g
@@ -40,7 +40,7 @@ reads_next base digits i n m d some r l at digit e =
     let here : is_digit d base ≡ true = grind (arith, nat_tests) in
     record {
       all = list_all_more (λ x. is_digit x base) digits i 0 l ∙ and_from _ _ r.all (subst (λ (x : ℕ). is_digit x base ≡ true) at here);
-      is = e ∙ capped_step base (digits_value base (take i digits)) n (digit_value d) (omega arith) r.is
+      is = e ∙ capped_next base (digits_value base (take i digits)) n (digit_value d) (omega arith) r.is
           ∙ ap (λ x. min (digits_value base (take i digits) * base + digit_value x) 0x11_0000) at
           ∙ ap (λ x. min x 0x11_0000) (sym (digits_value_more base digits i l));
       small = omega arith;

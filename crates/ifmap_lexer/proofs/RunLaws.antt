@@ -20,9 +20,9 @@ keeps_without_breaks [] f g = refl
 keeps_without_breaks (x ∷ xs) f g = λ i. no_break x f.0 g.0 i ∷ keeps_without_breaks xs f.1 g.1 i
 
 module _ (rest front after : List ℕ) where
-  pub tab_step : CutsAt tab rest front after → AllAre (is_but line_feed) rest
+  pub tab_cut : CutsAt tab rest front after → AllAre (is_but line_feed) rest
       → map as_space rest ≡ front ++ (space_character ∷ map as_space after)
-  tab_step c g =
+  tab_cut c g =
       ap (map as_space) c.bytes_are ∙ map-append as_space front (tab ∷ after)
       ∙ ap (λ x. x ++ (space_character ∷ map as_space after))
       (keeps_without_breaks front c.passes
@@ -31,8 +31,8 @@ module _ (rest front after : List ℕ) where
   pub after_tab : CutsAt tab rest front after → AllAre (is_but line_feed) rest → AllAre (is_but line_feed) after
   after_tab c g = (all_back (is_but line_feed) front (tab ∷ after) (subst (AllAre (is_but line_feed)) c.bytes_are g)).1
 
-  pub newline_step : CutsAt line_feed rest front after → map as_space rest ≡ map as_space front ++ (space_character ∷ map as_space after)
-  newline_step c = ap (map as_space) c.bytes_are ∙ map-append as_space front (line_feed ∷ after)
+  pub newline_cut : CutsAt line_feed rest front after → map as_space rest ≡ map as_space front ++ (space_character ∷ map as_space after)
+  newline_cut c = ap (map as_space) c.bytes_are ∙ map-append as_space front (line_feed ∷ after)
 
 lines_front : (front tail : List ℕ) → AllAre (is_but carriage_return) front → line_ends (front ++ tail) ≡ front ++ line_ends tail
 lines_front [] tail f = refl
@@ -42,12 +42,12 @@ lines_none : (xs : List ℕ) → AllAre (is_but carriage_return) xs → line_end
 lines_none [] f = refl
 lines_none (b ∷ bs) f = rw (not-true (b == carriage_return) f.0) (ap (λ x. b ∷ x) (lines_none bs f.1))
 
-pub break_step : (place : TextPlace) (rest line after beyond : List ℕ) → CutsAt carriage_return rest line after
+pub break_cut : (place : TextPlace) (rest line after beyond : List ℕ) → CutsAt carriage_return rest line after
     → line_ends (carriage_return ∷ after) ≡ line_feed ∷ line_ends beyond
     → part_in place (Plain rest) ≡ line_in place line ++ (break_in place ∷ part_in place (Plain beyond))
-break_step Content rest line after beyond c e = ap line_ends c.bytes_are ∙ lines_front line (carriage_return ∷ after) c.passes
+break_cut Content rest line after beyond c e = ap line_ends c.bytes_are ∙ lines_front line (carriage_return ∷ after) c.passes
     ∙ ap (λ x. line ++ x) e
-break_step Value rest line after beyond c e =
+break_cut Value rest line after beyond c e =
     ap (λ x. map as_space (line_ends x)) c.bytes_are
     ∙ ap (map as_space) (lines_front line (carriage_return ∷ after) c.passes ∙ ap (λ x. line ++ x) e)
     ∙ map-append as_space line (line_feed ∷ line_ends beyond)

@@ -17,7 +17,7 @@ agree_at f g (suc n) h b l =
     let both = agree_and (f n) (g n) (agree_below f g n) h in
     elim (cases_eq b n) [ inl same ↦ rw same both.0 | inr other ↦ agree_at f g n both.1 b (omega arith) ]
 
--- a byte is marked where the table has no comma (44) at its place
+-- a byte passes where the table has no comma (44) at its place
 pub from_table : (table : List ℕ) (g : ℕ → Bool) (b : ℕ) → b < 256
     → agree_below (λ k. not (nat_eq (get_or table k 0) (byte ","))) g 256 ≡ true
     → not (nat_eq (get_or table b 0) (byte ",")) ≡ g b

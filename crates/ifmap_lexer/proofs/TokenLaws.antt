@@ -106,8 +106,8 @@ no_declaration bytes none s = none s.1 (declaration_by bytes s.0 s.1 s.2 s.3)
 
 -- comments
 
-pub no_opening_comment : (bytes : List ℕ) → ((rest : List ℕ) → bytes ≡ codes "<!--" ++ rest → ⊥) → Stands kinds.Comment bytes → ⊥
-no_opening_comment bytes none s = let t = comment_by bytes s.0 s.1 s.2 s.3 in none (t.0 ++ (codes "-->" ++ s.1)) t.1.bytes_are
+pub no_comment_begins : (bytes : List ℕ) → ((rest : List ℕ) → bytes ≡ codes "<!--" ++ rest → ⊥) → Stands kinds.Comment bytes → ⊥
+no_comment_begins bytes none s = let t = comment_by bytes s.0 s.1 s.2 s.3 in none (t.0 ++ (codes "-->" ++ s.1)) t.1.bytes_are
 
 lacks_back : (w a b : List ℕ) → Lacks w (a ++ b) → Lacks w b
 lacks_back w [] b l = l
@@ -148,8 +148,8 @@ module _ (bytes inner : List ℕ) (e : bytes ≡ codes "<!--" ++ inner) where
 
 -- character sections
 
-pub no_opening_section : (bytes : List ℕ) → ((rest : List ℕ) → bytes ≡ codes "<![CDATA[" ++ rest → ⊥) → Stands kinds.Section bytes → ⊥
-no_opening_section bytes none s = let t = (section_by bytes s.0 s.1 s.2 s.3).1 in none (t.0 ++ (codes "]]>" ++ s.1)) t.1.bytes_are
+pub no_section_begins : (bytes : List ℕ) → ((rest : List ℕ) → bytes ≡ codes "<![CDATA[" ++ rest → ⊥) → Stands kinds.Section bytes → ⊥
+no_section_begins bytes none s = let t = (section_by bytes s.0 s.1 s.2 s.3).1 in none (t.0 ++ (codes "]]>" ++ s.1)) t.1.bytes_are
 
 module _ (bytes inner : List ℕ) (e : bytes ≡ codes "<![CDATA[" ++ inner) where
   section_inner : (text rest : List ℕ) (t : TakesToken bytes (Section text) rest) → inner ≡ t.0 ++ (codes "]]>" ++ rest)
@@ -177,8 +177,8 @@ module _ (bytes inner : List ℕ) (e : bytes ≡ codes "<![CDATA[" ++ inner) whe
 
 -- end tags
 
-pub no_opening_end : (bytes : List ℕ) → ((rest : List ℕ) → bytes ≡ codes "</" ++ rest → ⊥) → Stands kinds.End bytes → ⊥
-no_opening_end bytes none s = let t =
+pub no_end_begins : (bytes : List ℕ) → ((rest : List ℕ) → bytes ≡ codes "</" ++ rest → ⊥) → Stands kinds.End bytes → ⊥
+no_end_begins bytes none s = let t =
     end_by bytes s.0 s.1 s.2 s.3 in none (name_bytes t.0 ++ (t.1.white ++ (codes ">" ++ s.1))) t.1.bytes_are
 
 module _ (bytes inner : List ℕ) (e : bytes ≡ codes "</" ++ inner) where

@@ -29,8 +29,8 @@ abbrev pub SomeName : List ℕ → Type 0
 SomeName bytes = (name : Qualified) × (rest : List ℕ) × IsQualified name × (bytes ≡ name_bytes name ++ rest) × Stops is_name_byte rest
 
 -- the bytes are a qualified name
-abbrev pub Written : List ℕ → Type 0
-Written bytes = (name : Qualified) × IsQualified name × (name_bytes name ≡ bytes)
+abbrev pub AreQualifiedName : List ℕ → Type 0
+AreQualifiedName bytes = (name : Qualified) × IsQualified name × (name_bytes name ≡ bytes)
 
 -- a quote, and what is after it
 abbrev pub is_quote : ℕ → Bool

@@ -3,7 +3,7 @@ ghost use Rattle.std.specs.Prelude.{◌≡◌, ◌&&◌, ◌++◌, ◌↔◌, �
 ghost use Rattle.std.specs.List.{list_all, prefix_len};
 ghost use Rattle.ifmap_elem.specs.declared.tokens.Qualified.{Qualified};
 ghost use Rattle.ifmap_elem.specs.Names.{IsNamePart, IsQualified, is_name_start, is_name_character, name_bytes};
-ghost use Rattle.ifmap_lexer.specs.There.{BeginsNamed, NameAt, SomeName, Written};
+ghost use Rattle.ifmap_lexer.specs.There.{BeginsNamed, NameAt, SomeName, AreQualifiedName};
 ghost use Rattle.ifmap_lexer.specs.Cutting.{Cuts};
 ghost use Rattle.std.specs.Bool.{OnTrue};
 ghost use Rattle.ifmap_elem.specs.laws.NameBytes.{is_name_byte};
@@ -94,7 +94,7 @@ fn may_be_named(byte: u8) -> bool
 // The name that is written so.
 fn qualified_name(alloc: Global, bytes: &[u8]) -> Result<Qualified, LexError>
     ensures found { IfOk result (λ name. IsQualified name × (name_bytes name ≡ bytes.now)) }
-    ensures refused { IfErr result (λ e. Refuses e (Written bytes.now)) }
+    ensures refused { IfErr result (λ e. Refuses e (AreQualifiedName bytes.now)) }
 {
     match split_round_byte(b':', bytes) {
         Some((prefix, local)) => {

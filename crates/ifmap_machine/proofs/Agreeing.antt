@@ -189,12 +189,12 @@ module _ (rows : List Attachment) (serial counter : ℕ) (sets : Sets) (standing
   }
 
   -- of those that count now, the ones of other names counted before
-  abbrev pub Counted : (Standing → Type 0) → (Standing → Type 0) → List ℕ → Type 0
-  Counted Live Now name = (x : Standing) → Now x → is_same_text name x.name ≡ false → Live x
+  abbrev pub OthersLive : (Standing → Type 0) → (Standing → Type 0) → List ℕ → Type 0
+  OthersLive Live Now name = (x : Standing) → Now x → is_same_text name x.name ≡ false → Live x
 
   -- an item of a name more, where that name has no subscription
   more_tells : {Live Now : Standing → Type 0} (name : List ℕ) (item : PollItem) (t : Told) → is_named name item ≡ true
-      → Counted Live Now name → Tells Live rows serial counter sets standing t
+      → OthersLive Live Now name → Tells Live rows serial counter sets standing t
       → (x : Standing) → Has (drop_name serial name t).standing x → x.serial ≡ serial → Now x
       → fold_items ((drop_name serial name t).queue ++ item ∷ []) sets x.name ≡ Some (fresh rows x.search)
   more_tells name item t named counted w x hx own live =
@@ -205,7 +205,7 @@ module _ (rows : List Attachment) (serial counter : ℕ) (sets : Sets) (standing
       ∙ other_stays item (fold_items left.queue sets) name x.name named apart
       ∙ (dropped_tells name t w).mine x hx own (counted x live apart)
 
-  begun_tells : {Live Now : Standing → Type 0} (name : List ℕ) (asked : Search) (t : Told) → Counted Live Now name
+  begun_tells : {Live Now : Standing → Type 0} (name : List ℕ) (asked : Search) (t : Told) → OthersLive Live Now name
       → Tells Live rows serial counter sets standing t
       → Tells Now rows serial counter sets standing (begin_name rows serial name asked (drop_name serial name t))
   begun_tells {Live} {Now} name asked t counted w =
@@ -238,7 +238,7 @@ module _ (rows : List Attachment) (serial counter : ℕ) (sets : Sets) (standing
         })
       ]
 
-  updated_tells : {Live Now : Standing → Type 0} (name : List ℕ) (asked : Search) (t : Told) → Counted Live Now name
+  updated_tells : {Live Now : Standing → Type 0} (name : List ℕ) (asked : Search) (t : Told) → OthersLive Live Now name
       → Tells Live rows serial counter sets standing t → TellSome Now (subscribe_op rows serial (Update name asked) t)
   updated_tells {Live} {Now} name asked t counted w =
       elim (cases_Bool (is_full_for serial name t.standing)) [

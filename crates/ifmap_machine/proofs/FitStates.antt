@@ -51,7 +51,7 @@ use Rattle.ifmap_publish.specs.declared.who.Who.TheVariants.{Sessions, Publisher
 use Rattle.ifmap_replies.specs.Fit.{AreFitEntries, IsFitEntry, IsFitPollItem}
 use Rattle.ifmap_publish.specs.ifmap_requests.Fit.{IsFitOp, IsFitSubscribeOp}
 use Rattle.ifmap_publish.specs.ifmap_requests.declared.publish_ops.PublishOp.{PublishOp}
-use Rattle.ifmap_publish.specs.ifmap_requests.declared.publish_ops.PublishOp.TheVariants as publishing
+use Rattle.ifmap_publish.specs.ifmap_requests.declared.publish_ops.PublishOp.TheVariants as the_op
 use Rattle.ifmap_publish.specs.ifmap_requests.declared.requests.Request.TheVariants as the_request
 use Rattle.ifmap_publish.specs.ifmap_requests.declared.requests.SubscribeOp.{SubscribeOp}
 use Rattle.ifmap_publish.specs.ifmap_requests.declared.requests.SubscribeOp.TheVariants.{Update, Delete}
@@ -215,9 +215,9 @@ module _ (by : Authorship) (name : IsClientName by.client) where
   )
 
   fit_op_notes : (op : PublishOp) → IsFitOp op → AreFitNotes (notes_of_op by op)
-  fit_op_notes (publishing.Notify item elements) f = fit_elements item f.0 elements f.1
-  fit_op_notes (publishing.Update item elements forever) f = tt
-  fit_op_notes (publishing.Delete item filter) f = tt
+  fit_op_notes (the_op.Notify item elements) f = fit_elements item f.0 elements f.1
+  fit_op_notes (the_op.Update item elements forever) f = tt
+  fit_op_notes (the_op.Delete item filter) f = tt
 
   fit_notes : (ops : List PublishOp) → AllByRecursion IsFitOp ops → AreFitNotes (notes_of by ops)
   fit_notes ops f = all_of_joined IsFitOp (λ n. IsFitEntry (entry_noted n)) (notes_of_op by) fit_op_notes ops f

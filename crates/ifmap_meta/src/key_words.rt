@@ -97,14 +97,14 @@ fn mix_child(word: u64, child: &Child) -> u64
 }
 
 // What stands after each text: the first number that is no byte.
-const END_MARK: u64 = 256;
+const END_OF_TEXT: u64 = 256;
 
 // Mixes in a text with its end.
 #[tactic(auto, using(crate::specs::laws::KeyWordLaws::mix_append))]
 pub(crate) fn mix_text(word: u64, text: &[u8]) -> u64
     ensures { result ≡ mix_all word (end_part text.now) }
 {
-    mix(mix_bytes(word, text), END_MARK)
+    mix(mix_bytes(word, text), END_OF_TEXT)
 }
 
 #[tactic(auto, using(crate::specs::laws::KeyWordLaws::mix_append))]

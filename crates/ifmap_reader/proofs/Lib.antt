@@ -18,6 +18,6 @@ pub mod NameSets
 pub mod NextTokens
 pub mod Progressing
 pub mod ScopeLaws
-pub mod Stepping
+pub mod Leading
 pub mod ReversedLaws
 pub mod Ways

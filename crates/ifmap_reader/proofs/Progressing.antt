@@ -125,9 +125,9 @@ module _ (bytes : List ℕ) (depth : ℕ) (w : Where) (rest : List ℕ) (at : At
     begins_so_far : BeginsDocument at.so_far
     begins_so_far = let s = some_way w in record { more = s.0; reading = s.1.0; document = (at.goes s.0 s.1.0).1 s.1.1 }
 
-    pub step_refused : (place : ℕ) → place ≡ offset bytes rest → ((ts : List Token) (r : Reading)
+    pub next_refused : (place : ℕ) → place ≡ offset bytes rest → ((ts : List Token) (r : Reading)
         → IsDocumentFrom w (t ∷ ts) r → ⊥) → IsUnreadable bytes depth place
-    step_refused place is refused =
+    next_refused place is refused =
         is_unreadable_at bytes depth place
         (record {
           tokens = at.so_far;
@@ -150,8 +150,8 @@ module _ (bytes : List ℕ) (depth : ℕ) (w : Where) (rest : List ℕ) (at : At
         fitting (Within (g ∷ gs)) f = omega (arith, f)
         fitting (AfterRoot root) f = omega arith
 
-    pub step_too_deep : (place : ℕ) → place ≡ offset bytes rest → Passes depth w t → IsTooDeep bytes depth place
-    step_too_deep place is p =
+    pub next_too_deep : (place : ℕ) → place ≡ offset bytes rest → Passes depth w t → IsTooDeep bytes depth place
+    next_too_deep place is p =
         let s = some_way p.new in
         record {
           deeper = λ r s. let x = spelled r s in let d = goes_deep p.new x.0 r ((p.follows x.0 r).0 x.1) in let e = p.deeper in omega
@@ -261,10 +261,10 @@ module _ (bytes : List ℕ) (depth : ℕ) (w : Where) (place : ℕ) (at : At byt
       where
         by : (refusal : TokenRefusal) → TokenAnswer depth w t (Err refusal) → IsRead bytes depth (Err (refusal_error refusal place))
         by refusals.NotAllowed h =
-            step_refused bytes depth w (drop place bytes) at t (drop (place + count) bytes) (some_left l) taken_here alone_here place
+            next_refused bytes depth w (drop place bytes) at t (drop (place + count) bytes) (some_left l) taken_here alone_here place
             (offset_is (omega (arith, l))) h
         by refusals.TooDeep h =
-            step_too_deep bytes depth w (drop place bytes) at t (drop (place + count) bytes) (some_left l) taken_here alone_here place
+            next_too_deep bytes depth w (drop place bytes) at t (drop (place + count) bytes) (some_left l) taken_here alone_here place
             (offset_is (omega (arith, l))) h
         by refusals.NoMemory h = tt
 

@@ -1,3 +1,3 @@
 pub mod Tags
-pub mod Steps
+pub mod Goes
 pub mod Readings

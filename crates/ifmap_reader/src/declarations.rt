@@ -51,8 +51,8 @@ impl ReversedDeclarations {
         ensures { IfOk result (λ made. made ≡ map (from_above index) self) }
     {
         let ReversedDeclarations { rows, mut above } = self;
-        let step = step_of(index)?;
-        above.push(step)?;
+        let child = path_index(index)?;
+        above.push(child)?;
         Ok(ReversedDeclarations { rows, above })
     }
 
@@ -116,13 +116,13 @@ impl ReversedDeclarations {
 }
 
 // How a path tells of the child at this index. One beyond 32 bits is more than memory holds.
-fn step_of(index: usize) -> Result<u32, NoMemory>
-    ensures { IfOk result (λ step. step ≡ index) }
+fn path_index(index: usize) -> Result<u32, NoMemory>
+    ensures { IfOk result (λ child. child ≡ index) }
 {
-    let Ok(step) = u32::try_from(index) else {
+    let Ok(child) = u32::try_from(index) else {
         return Err(NoMemory);
     };
-    Ok(step)
+    Ok(child)
 }
 
 // Rows with whole paths, and more declarations after them.
@@ -162,9 +162,9 @@ fn lengthen(row: Declared, above: &[u32]) -> Result<Declared, NoMemory>
         prefix,
         space,
     } = row;
-    let Many(mut steps) = path;
-    steps.extend_from_slice(above)?;
-    let path = Many(steps);
+    let Many(mut indices) = path;
+    indices.extend_from_slice(above)?;
+    let path = Many(indices);
     Ok(Declared {
         path,
         prefix,
@@ -181,10 +181,10 @@ fn reverse_path(row: Declared, above: &[u32]) -> Result<Declared, NoMemory>
         prefix,
         space,
     } = row;
-    let Many(mut steps) = path;
-    steps.extend_from_slice(above)?;
-    steps.reverse();
-    let path = Many(steps);
+    let Many(mut indices) = path;
+    indices.extend_from_slice(above)?;
+    indices.reverse();
+    let path = Many(indices);
     Ok(Declared {
         path,
         prefix,

@@ -6,7 +6,7 @@ use Rattle.std.proofs.lemmas.Bool.{cases_lt}
 use Rattle.std.specs.HashSet.{HashSet}
 use Rattle.ifmap_region.specs.declared.flips.Flip.{Flip}
 use Rattle.ifmap_region.specs.Bounds.{IsWithin, within_wider, within_heavier, within_more, within_both}
-use Rattle.ifmap_region.specs.Flips.{IsFlipped, WithRemoved, Mid, Old}
+use Rattle.ifmap_region.specs.Flips.{IsFlipped, WithRemoved, Mid, OldLinks}
 use Rattle.ifmap_region.specs.declared.mid.Ends.{Ends}
 use Rattle.ifmap_region.specs.Hiding.{hides, unless_hidden}
 use Rattle.ifmap_region.specs.Links.{Linked, IsSymmetric}
@@ -108,28 +108,30 @@ module _ {S : Type 0} (count : ℕ → ℕ) (link : ℕ → ℕ → Option ℕ) 
         by true e f = absurd (true≢false (sym (turned w v e) ∙ f))
         by false e f = e
 
-    module _ (depths : AreDepths (Old (Linked count link) flips) terminal start top m) where
-      old_reached : (k v : ℕ) → k ≤ top → Walk (Old (Linked count link) flips) terminal start k v → (j : ℕ) × (m v ≡ Some j)
-      old_reached k v le w = let f = walk_has_mark (Old (Linked count link) flips) terminal start top m depths v k le w in (f.0, f.1)
+    module _ (depths : AreDepths (OldLinks (Linked count link) flips) terminal start top m) where
+      old_reached : (k v : ℕ) → k ≤ top → Walk (OldLinks (Linked count link) flips) terminal start k v → (j : ℕ) × (m v ≡ Some j)
+      old_reached k v le w = let f = walk_has_mark (OldLinks (Linked count link) flips) terminal start top m depths v k le w in (f.0, f.1)
 
       mid_reached : (k v : ℕ) → k ≤ top → Walk (Mid (Linked count link) flips) terminal start k v → (j : ℕ) × (m v ≡ Some j)
       mid_reached k v le w =
-          old_reached k v le (walk_along (Mid (Linked count link) flips) (Old (Linked count link) flips) terminal start (λ x y l. inl l)
-          k v w)
+          old_reached k v le
+          (walk_along (Mid (Linked count link) flips) (OldLinks (Linked count link) flips) terminal start (λ x y l. inl l) k v w)
 
-      old_back : (v w : ℕ) → Old (Linked count link) flips v w → WithRemoved ShowsLink flips v w
+      old_back : (v w : ℕ) → OldLinks (Linked count link) flips v w → WithRemoved ShowsLink flips v w
       old_back v w l = elim l [ inl mid ↦ inl (shown_back v w mid) | inr f ↦ inr f ]
 
-      old_met : (v w k : ℕ) → m v ≡ Some k → WithRemoved ShowsLink flips v w → Old (Linked count link) flips v w
+      old_met : (v w k : ℕ) → m v ≡ Some k → WithRemoved ShowsLink flips v w → OldLinks (Linked count link) flips v w
       old_met v w k e l = elim l [ inl mid ↦ inl (shown_met v w k e mid) | inr f ↦ inr f ]
 
       old_there : (v k : ℕ) → HasDepth (WithRemoved ShowsLink flips) terminal start top v k
-          → HasDepth (Old (Linked count link) flips) terminal start top v k
-      old_there = depth_met (Old (Linked count link) flips) (WithRemoved ShowsLink flips) terminal start top m old_back old_reached old_met
+          → HasDepth (OldLinks (Linked count link) flips) terminal start top v k
+      old_there =
+          depth_met (OldLinks (Linked count link) flips) (WithRemoved ShowsLink flips) terminal start top m old_back old_reached old_met
 
-      old_again : (v k : ℕ) → HasDepth (Old (Linked count link) flips) terminal start top v k
+      old_again : (v k : ℕ) → HasDepth (OldLinks (Linked count link) flips) terminal start top v k
           → HasDepth (WithRemoved ShowsLink flips) terminal start top v k
-      old_again = depth_more (Old (Linked count link) flips) (WithRemoved ShowsLink flips) terminal start top m old_back old_reached old_met
+      old_again =
+          depth_more (OldLinks (Linked count link) flips) (WithRemoved ShowsLink flips) terminal start top m old_back old_reached old_met
 
       mid_there : (v k : ℕ) → HasDepth ShowsLink terminal start top v k → HasDepth (Mid (Linked count link) flips) terminal start top v k
       mid_there = depth_met (Mid (Linked count link) flips) ShowsLink terminal start top m shown_back mid_reached shown_met
@@ -147,7 +149,7 @@ module _ {S : Type 0} (count : ℕ → ℕ) (link : ℕ → ℕ → Option ℕ) 
           → AreDepths (Mid (Linked count link) flips) terminal start top n
       after_cut n cut v k = (λ e. mid_there v k ((cut v k).0 e), λ h. (cut v k).1 (mid_again v k h))
 
-      same_cut : (v : ℕ) → SameDepth (Old (Linked count link) flips) (Mid (Linked count link) flips) terminal start top v
+      same_cut : (v : ℕ) → SameDepth (OldLinks (Linked count link) flips) (Mid (Linked count link) flips) terminal start top v
           → SameDepth (WithRemoved ShowsLink flips) ShowsLink terminal start top v
       same_cut v same k = (λ h. mid_again v k ((same k).0 (old_there v k h)), λ h. old_again v k ((same k).1 (mid_there v k h)))
 

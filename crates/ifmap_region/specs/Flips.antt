@@ -29,8 +29,8 @@ abbrev pub Mid : (ℕ → ℕ → Type 0) → List Flip → ℕ → ℕ → Type
 Mid new flips = InBoth new (λ v w. ¬ IsFlipped flips true v w)
 
 -- the links of the old graph: the new ones with the flips undone
-abbrev pub Old : (ℕ → ℕ → Type 0) → List Flip → ℕ → ℕ → Type 0
-Old new flips = WithRemoved (Mid new flips) flips
+abbrev pub OldLinks : (ℕ → ℕ → Type 0) → List Flip → ℕ → ℕ → Type 0
+OldLinks new flips = WithRemoved (Mid new flips) flips
 
 -- what is flipped by the flips and one more is flipped by these, or by that one
 pub flipped_cases : (flips : List Flip) (flip : Flip) (added : Bool) (v w : ℕ) → IsFlipped (flips ++ flip ∷ []) added v w

@@ -1,7 +1,7 @@
 -- The numbers whose depth a change of links touches, and those near them.
 use Rattle.std.specs.Prelude.{ℕ, Bool, true, false, ◌↔◌, ◌⊎◌, List}
 use Rattle.ifmap_region.specs.declared.flips.Flip.{Flip}
-use Rattle.ifmap_region.specs.Flips.{IsEnd, Mid, Old}
+use Rattle.ifmap_region.specs.Flips.{IsEnd, Mid, OldLinks}
 use Rattle.ifmap_region.specs.Walks.{HasDepth}
 
 -- whatever is the depth of the number over one graph is its depth over the other
@@ -32,4 +32,4 @@ IsTouched old mid new terminal start top v = ¬ (SameDepth old mid terminal star
 -- what is near the flips
 abbrev pub NearFlips : (ℕ → ℕ → Type 0) → List Flip → (ℕ → Bool) → ℕ → ℕ → ℕ → Type 0
 NearFlips new flips terminal start top = Near (λ v. IsEnd flips true v ⊎ IsEnd flips false v)
-    (IsTouched (Old new flips) (Mid new flips) new terminal start top) (Old new flips) new
+    (IsTouched (OldLinks new flips) (Mid new flips) new terminal start top) (OldLinks new flips) new

@@ -1,7 +1,7 @@
 //! Marks are repaired after links came and went, at a cost that is bounded by what is near these.
 ghost use Rattle.std.specs.Prelude.{◌≡◌, ◌≢◌, ℕ, ◌+◌, Option, Some, true, IfOk};
 ghost use Rattle.ifmap_region.specs.Bounds.{IsWithin};
-ghost use Rattle.ifmap_region.specs.Flips.{IsFlipped, Old};
+ghost use Rattle.ifmap_region.specs.Flips.{IsFlipped, OldLinks};
 ghost use Rattle.ifmap_region.specs.Links.{links_of, IsSymmetric};
 ghost use Rattle.ifmap_region.specs.Marks.{mark_of, row_of, mark_over};
 ghost use Rattle.ifmap_region.specs.Near.{NearFlips};
@@ -39,7 +39,7 @@ pub fn repair<G: LinkSource, L: Ledger>(
         → links_of (G.seen graph.now) v w }
     ensures depths { let seen = G.seen graph.now in
         IfOk result (λ patch.
-        AreDepths (Old (links_of seen) flips.now) seen.terminal region.now.start
+        AreDepths (OldLinks (links_of seen) flips.now) seen.terminal region.now.start
         region.now.max_depth (mark_of region.now.marks.entries)
         → AreDepths (links_of seen) seen.terminal region.now.start region.now.max_depth
         (mark_over patch (mark_of region.now.marks.entries))) }
@@ -50,7 +50,7 @@ pub fn repair<G: LinkSource, L: Ledger>(
 
     // Also at want of memory.
     ensures steps { let seen = G.seen graph.now in
-        AreDepths (Old (links_of seen) flips.now) seen.terminal region.now.start
+        AreDepths (OldLinks (links_of seen) flips.now) seen.terminal region.now.start
         region.now.max_depth (mark_of region.now.marks.entries)
         → IsWithin (λ v. 1 + seen.count v) (NearFlips (links_of seen) flips.now seen.terminal
         region.now.start region.now.max_depth) 5 steps.old steps.new }

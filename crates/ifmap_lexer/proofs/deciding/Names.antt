@@ -8,7 +8,7 @@ use Rattle.ifmap_elem.specs.Chars.{AllAre, colon}
 use Rattle.ifmap_elem.specs.declared.tokens.Qualified.{Qualified}
 use Rattle.ifmap_elem.specs.Names.{IsNamePart, is_name_start, is_name_character}
 use Rattle.ifmap_elem.specs.laws.NameBytes.{is_name_byte}
-use Rattle.ifmap_lexer.specs.There.{SomeName, Written}
+use Rattle.ifmap_lexer.specs.There.{SomeName, AreQualifiedName}
 use Rattle.ifmap_lexer.proofs.NameLaws.{part_is_utf8, prefixed_found, unprefixed_found, prefixed_parts, unprefixed_part, name_found}
 use Rattle.ifmap_lexer.proofs.NameLaws.{name_run}
 use Rattle.ifmap_lexer.proofs.deciding.Runs.{are_or_not, cut_of, cut_or_none}
@@ -39,7 +39,7 @@ part_by bytes (c ∷ cs) e =
 pub part_or_not : (bytes : List ℕ) → Decided (IsNamePart bytes)
 part_or_not bytes = part_by bytes (chars bytes) refl
 
-written_or_not : (bytes : List ℕ) → Decided (Written bytes)
+written_or_not : (bytes : List ℕ) → Decided (AreQualifiedName bytes)
 written_or_not bytes = elim (cut_or_none colon bytes) [
   | inl c ↦ decided_by
       (λ (h : IsNamePart c.0 × IsNamePart c.1).

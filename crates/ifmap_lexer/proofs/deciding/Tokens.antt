@@ -12,9 +12,9 @@ use Rattle.ifmap_elem.specs.declared.tokens.TokenKind.{TokenKind}
 use Rattle.ifmap_elem.specs.declared.tokens.TokenKind.TheVariants as kinds
 use Rattle.ifmap_elem.specs.declared.escaping.TextPlace.TheVariants.{Content}
 use Rattle.ifmap_lexer.specs.There.{SomeToken}
-use Rattle.ifmap_lexer.proofs.TokenLaws.{of_kind, of_no_kind, no_declaration, no_opening_comment, no_dashes, no_comment_end}
-use Rattle.ifmap_lexer.proofs.TokenLaws.{no_comment_characters, comment_found, no_opening_section, no_brackets, no_section_characters}
-use Rattle.ifmap_lexer.proofs.TokenLaws.{section_found, no_opening_end, end_name, no_end_end, end_found, some_tag, no_tag_end}
+use Rattle.ifmap_lexer.proofs.TokenLaws.{of_kind, of_no_kind, no_declaration, no_comment_begins, no_dashes, no_comment_end}
+use Rattle.ifmap_lexer.proofs.TokenLaws.{no_comment_characters, comment_found, no_section_begins, no_brackets, no_section_characters}
+use Rattle.ifmap_lexer.proofs.TokenLaws.{section_found, no_end_begins, end_name, no_end_end, end_found, some_tag, no_tag_end}
 use Rattle.ifmap_lexer.proofs.TokenLaws.{start_found, empty_found, no_own, no_text_end, no_text_characters, some_text, text_found}
 use Rattle.ifmap_lexer.proofs.deciding.Declarations.{declaration_or_none}
 use Rattle.ifmap_lexer.proofs.deciding.Names.{name_or_none}
@@ -34,7 +34,7 @@ declaration_stands bytes = elim (declaration_or_none bytes) [
 
 comment_stands : (bytes : List ℕ) → StandsOrNone kinds.Comment bytes
 comment_stands bytes = elim (begins_or_not (codes "<!--") bytes) [
-  | inr none ↦ inr (no_opening_comment bytes (λ r e. none (r, e)))
+  | inr none ↦ inr (no_comment_begins bytes (λ r e. none (r, e)))
   | inl b ↦ elim (word_or_none (codes "--") b.0 (omega arith)) [
     | inr lacks ↦ inr (no_dashes bytes b.0 b.1 lacks)
     | inl w ↦ elim (begins_or_not (codes ">") w.1) [
@@ -49,7 +49,7 @@ comment_stands bytes = elim (begins_or_not (codes "<!--") bytes) [
 
 section_stands : (bytes : List ℕ) → StandsOrNone kinds.Section bytes
 section_stands bytes = elim (begins_or_not (codes "<![CDATA[") bytes) [
-  | inr none ↦ inr (no_opening_section bytes (λ r e. none (r, e)))
+  | inr none ↦ inr (no_section_begins bytes (λ r e. none (r, e)))
   | inl b ↦ elim (word_or_none (codes "]]>") b.0 (omega arith)) [
     | inr lacks ↦ inr (no_brackets bytes b.0 b.1 lacks)
     | inl w ↦ elim (characters_or_not w.0) [
@@ -61,7 +61,7 @@ section_stands bytes = elim (begins_or_not (codes "<![CDATA[") bytes) [
 
 end_stands : (bytes : List ℕ) → StandsOrNone kinds.End bytes
 end_stands bytes = elim (begins_or_not (codes "</") bytes) [
-  | inr none ↦ inr (no_opening_end bytes (λ r e. none (r, e)))
+  | inr none ↦ inr (no_end_begins bytes (λ r e. none (r, e)))
   | inl b ↦ elim (name_or_none b.0) [
     | inr none ↦ inr (λ s. none (end_name bytes b.0 b.1 s))
     | inl n ↦

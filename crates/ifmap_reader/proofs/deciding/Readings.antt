@@ -16,8 +16,8 @@ use Rattle.ifmap_elem.specs.laws.OneToken.{no_token, one_token}
 use Rattle.ifmap_reader.specs.Progress.{Where, AtStart, Within, AfterRoot}
 use Rattle.ifmap_reader.specs.Reads.{IsRead, IsTooDeep, IsUnreadable}
 use Rattle.ifmap_reader.proofs.Goings.{no_tokens, no_tokens_start, after_root_ends}
-use Rattle.ifmap_reader.proofs.Progressing.{At, at_start, at_next, ended_early, none_deep, not_lexed, step_refused, step_too_deep, spells_whole}
-use Rattle.ifmap_reader.proofs.deciding.Steps.{Goes, goes}
+use Rattle.ifmap_reader.proofs.Progressing.{At, at_start, at_next, ended_early, none_deep, not_lexed, next_refused, next_too_deep, spells_whole}
+use Rattle.ifmap_reader.proofs.deciding.Goes.{Goes, goes}
 
 -- how a reading comes out
 abbrev pub Outcome : List ℕ → ℕ → Type 0
@@ -54,8 +54,8 @@ module _ (token_or_none : (bytes : List ℕ) → Decided ((t : Token) × (rest :
         elim g [
           | inl l ↦ others l.0 (at_next bytes depth w rest at t after some takes only l.0 l.1)
           | inr h ↦ elim h [
-            | inl p ↦ inr (inr (place, step_too_deep bytes depth w rest at t after some takes only place refl p))
-            | inr none ↦ inr (inl (place, step_refused bytes depth w rest at t after some takes only place refl none))
+            | inl p ↦ inr (inr (place, next_too_deep bytes depth w rest at t after some takes only place refl p))
+            | inr none ↦ inr (inl (place, next_refused bytes depth w rest at t after some takes only place refl none))
           ]
         ]
 

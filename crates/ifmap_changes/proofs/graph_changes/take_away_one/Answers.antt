@@ -31,21 +31,21 @@ serials g c = c.in_ok-push.ensures.items ∙ ap (λ (l : List ℕ). l ++ c.args.
 
 pub take_away-requires-clause-ready : goal.take_away-requires-clause-ready
 take_away-requires-clause-ready g c =
-    let marked = c.flag_session.new.pending in
-    flagged_ready c.args.asking.now c.args.parts.now c.args.pending.now marked
-    (subst (λ (l : List Standing). length marked.gone.items ≡ length l) c.deref.ensures.value c.flag_session.ensures.flags.flags)
+    let flagged = c.flag_session.new.pending in
+    flagged_ready c.args.asking.now c.args.parts.now c.args.pending.now flagged
+    (subst (λ (l : List Standing). length flagged.gone.items ≡ length l) c.deref.ensures.value c.flag_session.ensures.flags.flags)
     c.flag_session.ensures.flags.stay c.flag_session.ensures.flags.tellings c.requires.ready
 
 pub returns-clause-told : goal.returns-clause-told
 returns-clause-told g c =
     let place = (goal.at.returns-clause-told g c).After-take_away in
-    let marked = c.flag_session.new.pending in
+    let flagged = c.flag_session.new.pending in
     let rows = retract (Sessions (c.args.serial ∷ [])) (rows_now c.args.parts.now.graph) in
     on_ok_weaker c.take_away.result (λ e. e
     ∙ ap (λ (l : List ℕ). overflow (tell (retract (Sessions l) (rows_now c.args.parts.now.graph)) []
-    (state_now c.args.asking.now c.args.parts.now marked))) (serials g place)
+    (state_now c.args.asking.now c.args.parts.now flagged))) (serials g place)
     ∙ ap (λ (s : State). overflow (tell rows [] s))
-    (flagged_state (c.args.serial ∷ []) c.args.asking.now c.args.parts.now c.args.pending.now marked (left_without_session g place)
+    (flagged_state (c.args.serial ∷ []) c.args.asking.now c.args.parts.now c.args.pending.now flagged (left_without_session g place)
     c.flag_session.ensures.flags.tellings)) c.take_away.ensures.takes.told
 
 pub returns-clause-kept : goal.returns-clause-kept
@@ -67,6 +67,6 @@ returns-in_err-serials-clause-steps g c =
 pub returns-clause-steps : goal.returns-clause-steps
 returns-clause-steps g c =
     let place = (goal.at.returns-clause-steps g c).After-take_away in
-    let marked = c.flag_session.new.pending in
-    ended_within c.args.asking.now c.args.parts.now c.args.pending.now marked c.args.serial c.push.new.self.items c.args.steps.now
+    let flagged = c.flag_session.new.pending in
+    ended_within c.args.asking.now c.args.parts.now c.args.pending.now flagged c.args.serial c.push.new.self.items c.args.steps.now
     c.take_away.new.steps (serials g place) (left_without_session g place) c.take_away.ensures.steps

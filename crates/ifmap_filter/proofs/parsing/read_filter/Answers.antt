@@ -5,7 +5,7 @@ use Rattle.ifmap_lemmas.specs.Branches.{fails_where_false}
 use Rattle.ifmap_filter.specs.Progress.{filter_state}
 use Rattle.ifmap_filter.specs.Reaching.{IsRefused, ReachesWhite}
 use Rattle.ifmap_filter.specs.Texts.{IsParsed}
-use Rattle.ifmap_filter.proofs.ParseLaws.{begin, ends_parse, go_on, refusal_is_parsed, step_shortens}
+use Rattle.ifmap_filter.proofs.ParseLaws.{begin, ends_parse, go_on, refusal_is_parsed, reading_on_shortens}
 use Rattle.ifmap_filter.proofs.parsing.read_filter.Goals as goal
 
 pub loop-rest-init : goal.loop-rest-init
@@ -18,15 +18,15 @@ loop-rest-init c = (
 
 pub loop-rest-preserved : goal.loop-rest-preserved
 loop-rest-preserved c =
-    let steps = c.in_ok-left.ensures.next in (
-      steps.is_text,
+    let reads_on = c.in_ok-left.ensures.next in (
+      reads_on.is_text,
       go_on c.args.text.now c.args.scope.now c.utf8.text (filter_state c.loop-rest.standing) c.loop-rest.rest.now c.loop-rest.invariant.0
-          c.loop-rest.invariant.1 (filter_state c.read_token.new.standing) c.in_ok-left.left.now steps,
+          c.loop-rest.invariant.1 (filter_state c.read_token.new.standing) c.in_ok-left.left.now reads_on,
     )
 
 pub loop-rest-smaller : goal.loop-rest-smaller
 loop-rest-smaller c =
-    step_shortens c.args.scope.now (filter_state c.loop-rest.standing) (filter_state c.read_token.new.standing) c.loop-rest.rest.now
+    reading_on_shortens c.args.scope.now (filter_state c.loop-rest.standing) (filter_state c.read_token.new.standing) c.loop-rest.rest.now
     c.in_ok-left.left.now c.loop-rest.invariant.0 c.in_ok-left.ensures.next
 
 pub returns : goal.returns

@@ -10,7 +10,7 @@ returns-clause-next c = record {
   token = token_of_raw c.in-Some.raw;
   after = chars c.in-Some.after.now;
   is_there = subst (λ o. IfSome o (λ f. IsFrontToken (token_at (chars c.args.rest.now)) f.0 f.1.now)) c.in-Some.is c.token_at.ensures.found;
-  steps = sym (subst (λ b. StandsAt b c.take_token.new.standing
+  follows = sym (subst (λ b. StandsAt b c.take_token.new.standing
       (follow_token c.args.scope.now (filter_state c.args.standing.now) (token_of_raw c.in-Some.raw))) c.if-not-allowed.false
       c.in_ok-allowed.ensures);
   left_is = c.without_white.ensures;

@@ -2,7 +2,7 @@ use Rattle.std.proofs.Common.{false, get_or, arith}
 use Rattle.std.proofs.lemmas.List.{drop_more}
 use Rattle.ifmap_graph.specs.Out.{items_changed}
 use Rattle.ifmap_graph.proofs.Accepting.{here_changed}
-use Rattle.ifmap_graph.proofs.Marks.{taken_all, takes_empty, takes_idle, takes_on, begins_taking}
+use Rattle.ifmap_graph.proofs.Flags.{taken_all, takes_empty, takes_idle, takes_on, begins_taking}
 use Rattle.ifmap_graph.proofs.bringing.take_shelves.Goals as goal
 
 pub loop-i-init : goal.loop-i-init

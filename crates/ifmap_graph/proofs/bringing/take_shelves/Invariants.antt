@@ -1,5 +1,5 @@
 use Rattle.ifmap_graph.specs.Out.{items_changed}
-use Rattle.ifmap_graph.proofs.Marks.{Taking}
+use Rattle.ifmap_graph.proofs.Flags.{Taking}
 use Rattle.ifmap_graph.proofs.bringing.take_shelves.Given as goal
 
 abbrev pub invariant-loop-i : goal.invariant-loop-i

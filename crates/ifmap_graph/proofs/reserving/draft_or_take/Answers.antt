@@ -11,7 +11,7 @@ use Rattle.ifmap_graph.specs.Drafted.{StayInPlace}
 use Rattle.ifmap_graph.specs.Inside.{IsInside}
 use Rattle.ifmap_graph.specs.Named.{uses_in}
 use Rattle.ifmap_graph.specs.Out.{items_changed}
-use Rattle.ifmap_graph.proofs.Brought.{brings_written, other_marked}
+use Rattle.ifmap_graph.proofs.Brought.{brings_written, other_flagged}
 use Rattle.ifmap_graph.proofs.Flipping.{inside_dropped}
 use Rattle.ifmap_graph.proofs.Made.{made_by, unmade_by}
 use Rattle.ifmap_graph.proofs.Touching.{kept_both}
@@ -77,7 +77,7 @@ returns-in-Ok-clause-made c = λ first grown brought.
     (graph_fields c.args.names.now c.args.shelves.now c.args.links.now.items) c.draft_and_wait.new.shelves c.draft_and_wait.new.links.items
     grown brought (all.inside c.args.names.now c.requires.inside) drafts.now all.next all.out drafts.ready drafts.links
     c.draft_and_wait.ensures.ends c.draft_and_wait.ensures.places
-    (other_marked (items_changed c.args.coming.now.changes.now) c.args.coming.now.fresh.now) c.in-Ok.ensures.waited
+    (other_flagged (items_changed c.args.coming.now.changes.now) c.args.coming.now.fresh.now) c.in-Ok.ensures.waited
 
 pub returns-in-Err-clause-unmade : goal.returns-in-Err-clause-unmade
 returns-in-Err-clause-unmade c = λ first is grown brought.

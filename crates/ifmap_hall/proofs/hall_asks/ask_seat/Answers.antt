@@ -1,7 +1,7 @@
 use Rattle.std.proofs.Common.{◌≡◌, [], ◌∷◌, ◌∙◌, ◌%◌, ◌^◌, refl, ap, sym, subst}
 use Rattle.std.specs.Prelude.{Some, None}
 use Rattle.atomic_table.specs.Table.{rest}
-use Rattle.ifmap_hall.specs.HallAsks.{TookATurn, AnsweredFromHistory, Turned}
+use Rattle.ifmap_hall.specs.HallAsks.{TookATurn, AnsweredFromHistory, TakesTurn}
 use Rattle.ifmap_hall.specs.Plays.{Gives}
 use Rattle.ifmap_hall.specs.SeatViews.{taken_of, ticket_of, with_ticket, with_book, after_turn, IsAtRest}
 use Rattle.ifmap_hall.proofs.Taking.{waits_drawn, lies_first, finds_book, brings_book, holds_brought, goes_on_to}
@@ -32,7 +32,7 @@ exchange-none-requires g c =
 
 -- what the turn of the book that was found tells
 turn_told : (g : Over) (c : After-exchange-none g)
-    → Turned g.M.Machine.next g.M.Machine.weight_of g.M.Machine.holds_on g.M.Machine.reply c.args.seat.now.me.0.view
+    → TakesTurn g.M.Machine.next g.M.Machine.weight_of g.M.Machine.holds_on g.M.Machine.reply c.args.seat.now.me.0.view
     c.await_turn.ensures.served.0 c.turn_of-answer.new.book
     c.args.number c.args.event c.turn_of-answer.result
 turn_told g c =

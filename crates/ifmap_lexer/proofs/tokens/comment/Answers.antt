@@ -1,8 +1,8 @@
-use Rattle.ifmap_lexer.proofs.TokenLaws.{no_opening_comment, no_dashes, no_comment_end, no_comment_characters}
+use Rattle.ifmap_lexer.proofs.TokenLaws.{no_comment_begins, no_dashes, no_comment_end, no_comment_characters}
 use Rattle.ifmap_lexer.proofs.tokens.comment.Goals as goal
 
 pub returns-in_default-clause-refused : goal.returns-in_default-clause-refused
-returns-in_default-clause-refused c = no_opening_comment c.args.bytes.now c.in_default.ensures.none
+returns-in_default-clause-refused c = no_comment_begins c.args.bytes.now c.in_default.ensures.none
 
 pub returns-in_default-split_word-clause-refused : goal.returns-in_default-split_word-clause-refused
 returns-in_default-split_word-clause-refused c =

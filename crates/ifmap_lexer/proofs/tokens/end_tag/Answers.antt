@@ -2,12 +2,12 @@ use Rattle.std.proofs.lemmas.Result.{err_from_is_err_and}
 use Rattle.ifmap_elem.specs.Kinds.{Stands}
 use Rattle.ifmap_elem.specs.declared.tokens.TokenKind.TheVariants as kinds
 use Rattle.ifmap_lexer.proofs.Basics.{refuses_by}
-use Rattle.ifmap_lexer.proofs.TokenLaws.{no_opening_end, end_name, no_end_end}
+use Rattle.ifmap_lexer.proofs.TokenLaws.{no_end_begins, end_name, no_end_end}
 use Rattle.ifmap_lexer.proofs.tokens.end_tag.Goals as goal
 use Rattle.ifmap_lexer.specs.There.{SomeName}
 
 pub returns-in_default-clause-refused : goal.returns-in_default-clause-refused
-returns-in_default-clause-refused c = no_opening_end c.args.bytes.now c.in_default.ensures.none
+returns-in_default-clause-refused c = no_end_begins c.args.bytes.now c.in_default.ensures.none
 
 pub returns-in_err-name-clause-refused : goal.returns-in_err-name-clause-refused
 returns-in_err-name-clause-refused c =

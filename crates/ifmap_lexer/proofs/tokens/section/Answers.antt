@@ -1,10 +1,10 @@
 use Rattle.std.proofs.Common.{ap, ◌∙◌}
 use Rattle.ifmap_elem.specs.Values.{line_ends}
-use Rattle.ifmap_lexer.proofs.TokenLaws.{no_opening_section, no_brackets, no_section_characters, section_found}
+use Rattle.ifmap_lexer.proofs.TokenLaws.{no_section_begins, no_brackets, no_section_characters, section_found}
 use Rattle.ifmap_lexer.proofs.tokens.section.Goals as goal
 
 pub returns-in_default-clause-refused : goal.returns-in_default-clause-refused
-returns-in_default-clause-refused c = no_opening_section c.args.bytes.now c.in_default.ensures.none
+returns-in_default-clause-refused c = no_section_begins c.args.bytes.now c.in_default.ensures.none
 
 pub returns-in_default-split_word-clause-refused : goal.returns-in_default-split_word-clause-refused
 returns-in_default-split_word-clause-refused c =

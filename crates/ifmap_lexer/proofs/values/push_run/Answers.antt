@@ -2,7 +2,7 @@ use Rattle.std.proofs.Common.{[], ◌∷◌, string_bytes}
 use Rattle.ifmap_lemmas.specs.Joined.{joined_more, whole_on_ok}
 use Rattle.ifmap_elem.specs.Values.{Plain}
 use Rattle.ifmap_lexer.specs.Runs.{break_in, line_in, part_in}
-use Rattle.ifmap_lexer.proofs.RunLaws.{break_step, break_end}
+use Rattle.ifmap_lexer.proofs.RunLaws.{break_cut, break_end}
 use Rattle.ifmap_lexer.proofs.values.push_run.Goals as goal
 
 pub loop-line-preserved : goal.loop-line-preserved
@@ -15,7 +15,7 @@ loop-line-preserved c =
       joined_more _ (string_bytes c.loop-line.text) (string_bytes c.push_line.new.out) (part_in place (Plain rest))
           (string_bytes c.push_break.new.text) (line_in place c.in-Some.line.now) (break_in place ∷ []) inv.1
           c.in_ok-push_line.ensures c.in_ok-push_break.ensures (part_in place (Plain later))
-          (break_step place rest c.in-Some.line.now c.in-Some.after.now later c.in-Some.ensures.found
+          (break_cut place rest c.in-Some.line.now c.in-Some.after.now later c.in-Some.ensures.found
           c.after_newline-rest.ensures.line),
     )
 

@@ -1,7 +1,7 @@
 use Rattle.std.proofs.Common.{[], ◌∷◌, ◌++◌, map, ap, ◌∙◌, refl, string_bytes, lit<}
 use Rattle.ifmap_lemmas.specs.Joined.{joined_more, whole_on_ok}
 use Rattle.ifmap_elem.specs.Values.{as_space}
-use Rattle.ifmap_lexer.proofs.RunLaws.{newline_step}
+use Rattle.ifmap_lexer.proofs.RunLaws.{newline_cut}
 use Rattle.ifmap_lexer.proofs.SplitLaws.{after_is_utf8}
 use Rattle.ifmap_lexer.proofs.values.push_spaced.Goals as goal
 use Rattle.ifmap_elem.specs.Chars.{line_feed, space_character}
@@ -18,7 +18,7 @@ loop-front-preserved c =
           (string_bytes c.push.new.self) (map as_space front) (space_character ∷ []) inv.1
           c.in_ok-push_untabbed.ensures
           (c.in_ok-push.ensures.bytes ∙ ap (λ x. string_bytes c.push_untabbed.new.text ++ x) (c.in_ok-push.ensures.ascii (lit< tt)))
-          (map as_space after) (newline_step rest front after cut),
+          (map as_space after) (newline_cut rest front after cut),
     )
 
 pub returns : goal.returns

@@ -1,7 +1,7 @@
 use Rattle.std.proofs.Common.{[], ◌∷◌, ◌++◌, map, ap, ◌∙◌, string_bytes, lit<}
 use Rattle.ifmap_lemmas.specs.Joined.{joined_more, whole_if_ok}
 use Rattle.ifmap_elem.specs.Values.{as_space}
-use Rattle.ifmap_lexer.proofs.RunLaws.{tab_step, after_tab, keeps_without_breaks}
+use Rattle.ifmap_lexer.proofs.RunLaws.{tab_cut, after_tab, keeps_without_breaks}
 use Rattle.ifmap_lexer.proofs.SplitLaws.{after_is_utf8}
 use Rattle.ifmap_lexer.proofs.values.push_untabbed.Goals as goal
 use Rattle.ifmap_elem.specs.Chars.{space_character}
@@ -19,7 +19,7 @@ loop-front-preserved c =
           front (space_character ∷ []) inv.2
           c.in_ok-push_str.ensures.bytes
           (c.in_ok-push.ensures.bytes ∙ ap (λ x. string_bytes c.push_str.new.self ++ x) (c.in_ok-push.ensures.ascii (lit< tt)))
-          (map as_space after) (tab_step rest front after cut inv.1),
+          (map as_space after) (tab_cut rest front after cut inv.1),
     )
 
 pub returns : goal.returns

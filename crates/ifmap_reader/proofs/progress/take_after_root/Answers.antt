@@ -1,5 +1,5 @@
 use Rattle.std.proofs.Common.{sym, ◌∙◌}
-use Rattle.ifmap_reader.proofs.Stepping.{margin_leads, no_margin}
+use Rattle.ifmap_reader.proofs.Leading.{margin_leads, no_margin}
 use Rattle.ifmap_reader.proofs.progress.take_after_root.Goals as goal
 
 pub returns-then-not-is_margin : goal.returns-then-not-is_margin

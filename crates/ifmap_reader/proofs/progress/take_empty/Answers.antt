@@ -4,7 +4,7 @@ use Rattle.std.proofs.lemmas.Result.{err_from_is_err_and}
 use Rattle.ifmap_reader.specs.declared.open_elements.OpenElement.{OpenElement}
 use Rattle.ifmap_reader.specs.OpenElements.{scope_of}
 use Rattle.ifmap_reader.specs.AllowedTags.{OpensElement, TagAnswer}
-use Rattle.ifmap_reader.proofs.Stepping.{empty_step, empty_too_deep, empty_refused}
+use Rattle.ifmap_reader.proofs.Leading.{empty_leads_in_code, empty_too_deep, empty_refused}
 use Rattle.ifmap_reader.specs.Progress.{where_is, after_element}
 use Rattle.ifmap_reader.proofs.progress.take_empty.Goals as goal
 
@@ -24,7 +24,7 @@ returns-then-len-depth c =
 
 pub returns : goal.returns
 returns c =
-    empty_step c.args.depth c.args.open_elements c.args.tag c.in_ok-inner.inner c.in_ok-element.element c.in_ok-element.declared
+    empty_leads_in_code c.args.depth c.args.open_elements c.args.tag c.in_ok-inner.inner c.in_ok-element.element c.in_ok-element.declared
     (where_is c.in_ok-with_element.field-0)
     (subst (λ (fs : List OpenElement). OpensElement (scope_of (reverse fs)) c.args.tag c.in_ok-inner.inner)
     (c.deref.ensures.value ∙ c.open_elements.view_is) c.in_ok-inner.ensures.0)

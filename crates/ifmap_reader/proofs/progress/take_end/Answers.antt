@@ -1,7 +1,7 @@
 use Rattle.std.proofs.Common.{◌∙◌, sym}
 use Rattle.ifmap_lemmas.specs.Joined.{none_to_pop}
 use Rattle.ifmap_reader.specs.Progress.{where_is}
-use Rattle.ifmap_reader.proofs.Stepping.{end_step, other_end, no_end}
+use Rattle.ifmap_reader.proofs.Leading.{end_leads_in_code, other_end, no_end}
 use Rattle.ifmap_reader.proofs.progress.take_end.Goals as goal
 
 pub returns-in_default : goal.returns-in_default
@@ -17,7 +17,7 @@ returns-then-not-is_named c = λ depth.
 
 pub returns : goal.returns
 returns c = λ depth.
-    end_step depth c.args.open_elements c.pop.new.self.items c.in-Some.innermost c.args.name c.in_ok-element.element
+    end_leads_in_code depth c.args.open_elements c.pop.new.self.items c.in-Some.innermost c.args.name c.in_ok-element.element
     c.in_ok-element.declared (where_is c.in_ok-with_element.field-0)
     (sym c.open_elements.view_is ∙ c.in-Some.ensures.items) (c.is_named.ensures.0 c.if-not-is_named.false) c.in_ok-element.ensures
     c.in_ok-with_element.ensures

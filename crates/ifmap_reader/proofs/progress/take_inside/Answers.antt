@@ -2,7 +2,7 @@ use Rattle.std.proofs.Common.{List, ◌∷◌, sym, subst, refl, reverse, inl, i
 use Rattle.ifmap_elem.specs.declared.readings.Reading.{Reading}
 use Rattle.ifmap_elem.specs.declared.tokens.Token.{Token}
 use Rattle.ifmap_reader.specs.Progress.{Within, IsDocumentFrom, Leads, TokenAnswer}
-use Rattle.ifmap_reader.proofs.Stepping.{comment_leads, declaration_refused}
+use Rattle.ifmap_reader.proofs.Leading.{comment_leads, declaration_refused}
 use Rattle.ifmap_reader.proofs.progress.take_inside.Goals as goal
 
 pub returns-in-Declaration : goal.returns-in-Declaration

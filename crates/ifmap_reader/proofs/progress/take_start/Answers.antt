@@ -4,7 +4,7 @@ use Rattle.std.proofs.lemmas.Result.{err_from_is_err_and}
 use Rattle.ifmap_reader.specs.declared.open_elements.OpenElement.{OpenElement}
 use Rattle.ifmap_reader.specs.OpenElements.{CountsBindings, scope_of}
 use Rattle.ifmap_reader.specs.AllowedTags.{OpensElement, TagAnswer}
-use Rattle.ifmap_reader.proofs.Stepping.{start_step, start_too_deep, start_refused}
+use Rattle.ifmap_reader.proofs.Leading.{start_leads_in_code, start_too_deep, start_refused}
 use Rattle.ifmap_reader.proofs.progress.take_start.Goals as goal
 
 pub returns-in_err-inner : goal.returns-in_err-inner
@@ -23,7 +23,7 @@ returns-then-len-depth c =
 
 pub returns : goal.returns
 returns c =
-    start_step c.args.depth c.args.open_elements c.push.new.self.items c.args.tag c.in_ok-inner.inner
+    start_leads_in_code c.args.depth c.args.open_elements c.push.new.self.items c.args.tag c.in_ok-inner.inner
     (subst (λ (fs : List OpenElement). OpensElement (scope_of (reverse fs)) c.args.tag c.in_ok-inner.inner)
     (c.deref.ensures.value ∙ c.open_elements.view_is) c.in_ok-inner.ensures.0)
     (subst (λ (fs : List OpenElement). CountsBindings c.in_ok-inner.inner.bindings c.in_ok-inner.inner.declaring (reverse fs))

@@ -1,11 +1,11 @@
 use Rattle.std.proofs.Common.{sym, ◌∙◌, refl}
-use Rattle.ifmap_reader.proofs.Stepping.{words_step, blank_step, words_refused}
+use Rattle.ifmap_reader.proofs.Leading.{words_lead_in_code, blank_leads_in_code, words_refused}
 use Rattle.ifmap_reader.proofs.progress.take_text.Goals as goal
 
 pub returns-then-blank : goal.returns-then-blank
 returns-then-blank c = λ depth t w.
     let none = c.is_empty.ensures.0 c.if-is_empty.true in
-    blank_step depth c.args.open_elements c.args.open_elements t c.args.blank c.args.text w none none c.if-blank.true
+    blank_leads_in_code depth c.args.open_elements c.args.open_elements t c.args.blank c.args.text w none none c.if-blank.true
 
 pub returns-then-is_empty : goal.returns-then-is_empty
 returns-then-is_empty c = λ depth t w.
@@ -14,5 +14,5 @@ returns-then-is_empty c = λ depth t w.
 pub returns : goal.returns
 returns c = λ depth t w.
     let changes = c.in_ok-add_words.ensures in
-    words_step depth c.args.open_elements changes.before c.add_words.new.open_elements.items changes.last _ t
+    words_lead_in_code depth c.args.open_elements changes.before c.add_words.new.open_elements.items changes.last _ t
     c.args.blank c.args.text w (sym c.open_elements.view_is ∙ changes.old_is) changes.new_is refl

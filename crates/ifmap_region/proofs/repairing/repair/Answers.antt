@@ -1,7 +1,7 @@
 use Rattle.std.proofs.Common.{◌+◌}
 use Rattle.ifmap_region.specs.Bounds.{IsWithin, within_nothing}
 use Rattle.ifmap_region.specs.DepthLaws.{depths_same}
-use Rattle.ifmap_region.specs.Flips.{Old}
+use Rattle.ifmap_region.specs.Flips.{OldLinks}
 use Rattle.ifmap_region.specs.Links.{links_of}
 use Rattle.ifmap_region.specs.Marks.{mark_of, mark_over}
 use Rattle.ifmap_region.specs.Near.{NearFlips}
@@ -14,7 +14,7 @@ use Rattle.ifmap_region.proofs.repairing.repair.Goals.{After-grow}
 
 -- the steps of the cut and of the growth, whatever comes after it
 spent : (g : given.Over) (c : After-grow g)
-    → AreDepths (Old (links_of (g.G.LinkSource.seen c.args.graph.now)) c.args.flips.now)
+    → AreDepths (OldLinks (links_of (g.G.LinkSource.seen c.args.graph.now)) c.args.flips.now)
     (g.G.LinkSource.seen c.args.graph.now).terminal c.args.region.now.start c.args.region.now.max_depth
     (mark_of c.args.region.now.marks.entries)
     → IsWithin (λ v. 1 + (g.G.LinkSource.seen c.args.graph.now).count v)

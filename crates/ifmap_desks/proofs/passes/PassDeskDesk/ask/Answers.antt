@@ -1,7 +1,7 @@
 -- What the hall answers is what the desk tells.
 use Rattle.std.proofs.Common.{refl, map, Some, sym, subst, take, drop}
 use Rattle.std.proofs.Math.Logic.{∥∥₁_map}
-use Rattle.ifmap_desks.specs.Answers.{Counted}
+use Rattle.ifmap_desks.specs.Answers.{CountsAnswer}
 use Rattle.ifmap_desks.specs.Calls.{calls_from, plain_call}
 use Rattle.ifmap_desks.specs.Machines.{core_next}
 use Rattle.ifmap_desks.proofs.PassTurns.{fits, gains}
@@ -67,5 +67,6 @@ invariant_of-self-clause-used_up g c =
     used_up (view_of c.args.self.now.pass.now) (view_of c.ask-asked.new.pass) e.took
     (pass_number c.args.self.now.pass.now) c.from_event.result
     c.ask-asked.result c.args.self.now.counts c.count.new.self e.answered
-    (subst (λ (a : Asked Event Answer). Counted a c.args.self.now.counts c.count.new.self) c.plain_answer-answer.ensures c.count.ensures)
+    (subst (λ (a : Asked Event Answer). CountsAnswer a c.args.self.now.counts c.count.new.self) c.plain_answer-answer.ensures
+    c.count.ensures)
     c.args.self.now.used_up

@@ -7,6 +7,6 @@ use Rattle.ifmap_reader.proofs.declarations.ReversedDeclarations.raise.Goals as 
 pub returns : goal.returns
 returns c =
     ap (λ above. map (reverse_path above) c.self.inside.rows.items)
-    (c.in_ok-push.ensures.items ∙ ap (λ n. c.self.inside.above.items ++ n ∷ []) c.in_ok-step.ensures)
+    (c.in_ok-push.ensures.items ∙ ap (λ n. c.self.inside.above.items ++ n ∷ []) c.in_ok-child.ensures)
     ∙ raised_rows c.self.inside.above.items c.args.index c.self.inside.rows.items
     ∙ ap (map (from_above c.args.index)) c.self.view_is

@@ -1,4 +1,4 @@
--- Each step of a reader is right: what goes on with the token from the place before is what goes on from the next place, or nothing does.
+-- Each place that a token leads to is right: what goes on with the token from the place before goes on from the next, or nothing does.
 -- Plan, by where the reader stands: (1) between tests, by whether the token is a name or a word that joins;
 -- (2) where a factor is due, by its first token: a parenthesis, `@`, or the name of a child;
 -- (3) within a comparison: the local name, the equals sign and the literal; (4) after a factor: `and`, `or`, and what closes;
@@ -25,7 +25,7 @@ use Rattle.ifmap_filter.specs.Progress.{ClosesOpenParts, Context, FilterState, S
 use Rattle.ifmap_filter.proofs.Continuing.{Refuses, and_more, any_asks, bare_named, filter_starts, name_asks, name_goes_on, no_name_no_test, none_asks, not_that_word, or_more, or_part, other_more, tested_or, tested_other, word_is}
 
 module _ (scope : Scope) where
-  -- the step from a place by a token is right: the next place, where so much deeper, or none
+  -- what a token leads to from a place is right: the next place, where so much deeper, or none
   abbrev pub IsRight : ℕ → FilterState → FilterToken → Option FilterState → Type 0
   IsRight n w t None = (filter : Filter) (more : List FilterToken) → IsFilterFrom scope filter n w (t ∷ more) → ⊥
   IsRight n w t (Some next) =
@@ -529,14 +529,15 @@ module _ (scope : Scope) where
 
   -- (5) all together
 
-  pub steps_right : (n : ℕ) (w : FilterState) → n + open_parts w ≡ depth_limit → (t : FilterToken) → IsRight n w t (follow_token scope w t)
-  steps_right n Start e t =
+  pub follows_right : (n : ℕ) (w : FilterState) → n + open_parts w ≡ depth_limit → (t : FilterToken)
+      → IsRight n w t (follow_token scope w t)
+  follows_right n Start e t =
       through n Start (TestDue []) t (λ filter more. filter_starts scope filter t more) (follow_test scope [] t) (right_test n [] e t)
-  steps_right n (TestDue done) e t = right_test n done e t
-  steps_right n (Named done name) e t = right_named n done name e t
-  steps_right n (Tested done) e t = right_tested n done e t
-  steps_right n (FactorDue c) e t = right_factor n c e t
-  steps_right n (LocalDue c) e t = right_local n c e t
-  steps_right n (EqualsDue c a) e t = right_equals n c a e t
-  steps_right n (LiteralDue c a) e t = right_literal n c a e t
-  steps_right n (FactorDone c) e t = right_done n c e t
+  follows_right n (TestDue done) e t = right_test n done e t
+  follows_right n (Named done name) e t = right_named n done name e t
+  follows_right n (Tested done) e t = right_tested n done e t
+  follows_right n (FactorDue c) e t = right_factor n c e t
+  follows_right n (LocalDue c) e t = right_local n c e t
+  follows_right n (EqualsDue c a) e t = right_equals n c a e t
+  follows_right n (LiteralDue c a) e t = right_literal n c a e t
+  follows_right n (FactorDone c) e t = right_done n c e t

@@ -1,6 +1,6 @@
 -- What one more token makes of where a reader stands.
 -- For each place and token one lemma that the token leads to the new place (`Leads`), and one that it is refused. What documents it goes
--- on to comes from `Goings`; levels, counts and links are sums. The lemmas that end in `_step` say the same of the code's list of open
+-- on to comes from `Goings`; levels, counts and links are sums. The lemmas that end in `_in_code` say the same of the code's list of open
 -- elements, whose last is the innermost.
 use Rattle.std.proofs.Common.{◌≡◌, ℕ, ◌+◌, ◌<◌, ◌≤◌, Bool, true, false, max, List, [], ◌∷◌, ◌++◌, length, reverse, refl, ap, sym, ◌∙◌, subst, arith, inl, inr}
 use Rattle.std.specs.Prelude.{Ok, Err, Result}
@@ -59,18 +59,18 @@ words_lead depth f fs t blank text w = elim w [
       (inner_words f fs (Section text) blank text (inr (e.0, refl))) refl refl refl refl (λ o. o) (λ l. l))
 ]
 
-pub words_step : (depth : ℕ) (old mid new : List OpenElement) (f g : OpenElement) (t : Token) (blank : Bool) (text : List ℕ)
+pub words_lead_in_code : (depth : ℕ) (old mid new : List OpenElement) (f g : OpenElement) (t : Token) (blank : Bool) (text : List ℕ)
     → IsCharacterData blank text t → old ≡ mid ++ f ∷ [] → new ≡ mid ++ g ∷ [] → g ≡ with_characters f text
     → Leads depth (Within (reverse old)) t (Within (reverse new))
-words_step depth old mid new f g t blank text w is made added =
+words_lead_in_code depth old mid new f g t blank text w is made added =
     subst (λ (fs : List OpenElement). Leads depth (Within fs) t (Within (reverse new))) (sym (last_first old mid f is))
     (subst (λ (fs : List OpenElement). Leads depth (Within (f ∷ reverse mid)) t (Within fs))
     (sym (last_first new mid g made ∙ ap (λ (h : OpenElement). h ∷ reverse mid) added))
     (words_lead depth f (reverse mid) t blank text w))
 
-pub blank_step : (depth : ℕ) (old new : List OpenElement) (t : Token) (blank : Bool) (text : List ℕ) → IsCharacterData blank text t
+pub blank_leads_in_code : (depth : ℕ) (old new : List OpenElement) (t : Token) (blank : Bool) (text : List ℕ) → IsCharacterData blank text t
     → old ≡ [] → new ≡ [] → blank ≡ true → Leads depth (Within (reverse old)) t (Within (reverse new))
-blank_step depth old new t blank text w none left b =
+blank_leads_in_code depth old new t blank text w none left b =
     subst (λ (fs : List OpenElement). Leads depth (Within (reverse fs)) t (Within (reverse new))) (sym none)
     (subst (λ (fs : List OpenElement). Leads depth (Within []) t (Within (reverse fs))) (sym left)
     (elim w [
@@ -142,10 +142,11 @@ start_passes depth fs tag new o l = record {
 }
 
 -- of the code's list, whose last is the innermost
-pub start_step : (depth : ℕ) (old new : List OpenElement) (tag : Tag) (f : OpenElement) → OpensElement (scope_of (reverse old)) tag f
+pub start_leads_in_code : (depth : ℕ) (old new : List OpenElement) (tag : Tag) (f : OpenElement)
+    → OpensElement (scope_of (reverse old)) tag f
     → CountsBindings f.bindings f.declaring (reverse old) → length old < depth → new ≡ old ++ f ∷ []
     → Leads depth (Within (reverse old)) (Start tag) (Within (reverse new))
-start_step depth old new tag f o reaches l is =
+start_leads_in_code depth old new tag f o reaches l is =
     subst (λ (fs : List OpenElement). Leads depth (Within (reverse old)) (Start tag) (Within fs)) (sym (last_first new old f is))
     (start_leads depth (reverse old) tag f o reaches (let h = length-reverse old in omega (arith, h, l)))
 
@@ -153,10 +154,10 @@ pub start_too_deep : (depth : ℕ) (old : List OpenElement) (tag : Tag) (f : Ope
     → depth ≤ length old → Passes depth (Within (reverse old)) (Start tag)
 start_too_deep depth old tag f o l = start_passes depth (reverse old) tag f o (let h = length-reverse old in omega (arith, h, l))
 
-pub empty_step : (depth : ℕ) (old : List OpenElement) (tag : Tag) (f : OpenElement) (e : Element) (d : List Declared) (new : Where)
+pub empty_leads_in_code : (depth : ℕ) (old : List OpenElement) (tag : Tag) (f : OpenElement) (e : Element) (d : List Declared) (new : Where)
     → OpensElement (scope_of (reverse old)) tag f → Closes f [] e d → length old < depth
     → new ≡ after_element (reverse old) e d → Leads depth (Within (reverse old)) (Empty tag) new
-empty_step depth old tag f e d new o k l is =
+empty_leads_in_code depth old tag f e d new o k l is =
     subst (λ (w : Where). Leads depth (Within (reverse old)) (Empty tag) w) (sym is)
     (empty_leads depth (reverse old) tag f o e d k (let h = length-reverse old in omega (arith, h, l)))
 
@@ -182,10 +183,10 @@ end_leads depth f fs name e d is c = record {
   linked = λ h. linked_after fs e d h.1;
 }
 
-pub end_step : (depth : ℕ) (old mid : List OpenElement) (f : OpenElement) (name : Qualified) (e : Element) (d : List Declared)
+pub end_leads_in_code : (depth : ℕ) (old mid : List OpenElement) (f : OpenElement) (name : Qualified) (e : Element) (d : List Declared)
     (new : Where) → old ≡ mid ++ f ∷ [] → name ≡ written_name f → Closes f [] e d → new ≡ after_element (reverse mid) e d
     → Leads depth (Within (reverse old)) (End name) new
-end_step depth old mid f name e d new is same c made =
+end_leads_in_code depth old mid f name e d new is same c made =
     subst (λ (fs : List OpenElement). Leads depth (Within fs) (End name) new) (sym (last_first old mid f is))
     (subst (λ (w : Where). Leads depth (Within (f ∷ reverse mid)) (End name) w) (sym made)
     (end_leads depth f (reverse mid) name e d same c))
@@ -253,24 +254,24 @@ module _ (depth : ℕ) (t : Token) (other : IsOther t) where
     linked = λ _. l.linked tt;
   }
 
-  start_steps : (result : Result DocumentProgress TokenRefusal) → TokenAnswer depth (Within []) t result
+  answers_from_start : (result : Result DocumentProgress TokenRefusal) → TokenAnswer depth (Within []) t result
       → TokenAnswer depth AtStart t result
-  start_steps (Ok new) h = from_start (where_is new) h
-  start_steps (Err NotAllowed) h = λ ts r x. h ts r ((start_other t other ts r).0 x)
-  start_steps (Err TooDeep) h = record {
+  answers_from_start (Ok new) h = from_start (where_is new) h
+  answers_from_start (Err NotAllowed) h = λ ts r x. h ts r ((start_other t other ts r).0 x)
+  answers_from_start (Err TooDeep) h = record {
     opens = h.opens;
     level_is = h.level_is;
     new = h.new;
     deeper = h.deeper;
     follows = λ ts r. let e = start_other t other ts r in let k = h.follows ts r in (λ x. k.0 (e.0 x), λ x. e.1 (k.1 x));
   }
-  start_steps (Err NoMemory) h = tt
+  answers_from_start (Err NoMemory) h = tt
 
-  pub steps_at_start : (s : Where) (fs : List OpenElement) (result : Result DocumentProgress TokenRefusal) → s ≡ AtStart → fs ≡ []
+  pub answers_at_start : (s : Where) (fs : List OpenElement) (result : Result DocumentProgress TokenRefusal) → s ≡ AtStart → fs ≡ []
       → TokenAnswer depth (Within (reverse fs)) t result → TokenAnswer depth s t result
-  steps_at_start s fs result is none h =
+  answers_at_start s fs result is none h =
       subst (λ (w : Where). TokenAnswer depth w t result) (sym is)
-      (start_steps result (subst (λ (gs : List OpenElement). TokenAnswer depth (Within (reverse gs)) t result) none h))
+      (answers_from_start result (subst (λ (gs : List OpenElement). TokenAnswer depth (Within (reverse gs)) t result) none h))
 
 pub declaration_at_start : (depth : ℕ) (s : Where) (t : Token) (new : List OpenElement) → s ≡ AtStart → t ≡ Declaration → new ≡ []
     → Leads depth s t (Within (reverse new))

@@ -13,7 +13,7 @@ use Rattle.ifmap_reader.specs.OpenElements.{with_characters, written_name}
 use Rattle.ifmap_reader.specs.Progress.{Where, AtStart, Within, AfterRoot, IsDocumentFrom, IsCharacterData, is_margin, Leads, Passes, after_element}
 use Rattle.ifmap_reader.proofs.Goings.{IsOther, no_start, no_empty, start_other}
 use Rattle.ifmap_reader.proofs.Items.{closed_of}
-use Rattle.ifmap_reader.proofs.Stepping.{comment_leads, declaration_leads, words_step, blank_step, words_refused, start_step, start_too_deep, empty_step, empty_too_deep, end_step, other_end, no_end, declaration_refused, margin_leads, no_margin}
+use Rattle.ifmap_reader.proofs.Leading.{comment_leads, declaration_leads, words_lead_in_code, blank_leads_in_code, words_refused, start_leads_in_code, start_too_deep, empty_leads_in_code, empty_too_deep, end_leads_in_code, other_end, no_end, declaration_refused, margin_leads, no_margin}
 use Rattle.ifmap_reader.proofs.deciding.Tags.{element_or_none, qualified_or_other}
 
 module _ (depth : ℕ) where
@@ -26,7 +26,7 @@ module _ (depth : ℕ) where
   start_goes old tag = elim (element_or_none (reverse old) tag) [
     | inr none ↦ inr (inr (no_start (reverse old) tag none))
     | inl o ↦ elim (cases_lt (length old) depth) [
-      | inl l ↦ inl (Within (reverse (old ++ o.0 ∷ [])), start_step depth old (old ++ o.0 ∷ []) tag o.0 o.1 o.2 l refl)
+      | inl l ↦ inl (Within (reverse (old ++ o.0 ∷ [])), start_leads_in_code depth old (old ++ o.0 ∷ []) tag o.0 o.1 o.2 l refl)
       | inr g ↦ inr (inl (start_too_deep depth old tag o.0 o.1 g))
     ]
   ]
@@ -37,7 +37,7 @@ module _ (depth : ℕ) where
     | inl o ↦ elim (cases_lt (length old) depth) [
       | inl l ↦
           let k = closed_of o.0 in
-          inl (after_element (reverse old) k.0 k.1.0, empty_step depth old tag o.0 k.0 k.1.0 _ o.1 k.1.1 l refl)
+          inl (after_element (reverse old) k.0 k.1.0, empty_leads_in_code depth old tag o.0 k.0 k.1.0 _ o.1 k.1.1 l refl)
       | inr g ↦ inr (inl (empty_too_deep depth old tag o.0 o.1 g))
     ]
   ]
@@ -49,7 +49,7 @@ module _ (depth : ℕ) where
       | inr other ↦ inr (inr (other_end old l.0 l.1 name l.2 other))
       | inl same ↦
           let k = closed_of l.1 in
-          inl (after_element (reverse l.0) k.0 k.1.0, end_step depth old l.0 l.1 name k.0 k.1.0 _ l.2 same k.1.1 refl)
+          inl (after_element (reverse l.0) k.0 k.1.0, end_leads_in_code depth old l.0 l.1 name k.0 k.1.0 _ l.2 same k.1.1 refl)
     ]
   ]
 
@@ -58,9 +58,9 @@ module _ (depth : ℕ) where
   data_goes old t blank text w = elim (last_or_none old) [
     | inl l ↦
         let new = l.0 ++ with_characters l.1 text ∷ [] in
-        inl (Within (reverse new), words_step depth old l.0 new l.1 (with_characters l.1 text) t blank text w l.2 refl refl)
+        inl (Within (reverse new), words_lead_in_code depth old l.0 new l.1 (with_characters l.1 text) t blank text w l.2 refl refl)
     | inr none ↦ elim (cases_Bool blank) [
-      | inl b ↦ inl (Within (reverse []), blank_step depth old [] t blank text w none refl b)
+      | inl b ↦ inl (Within (reverse []), blank_leads_in_code depth old [] t blank text w none refl b)
       | inr b ↦ inr (inr (words_refused old t blank text w none b))
     ]
   ]

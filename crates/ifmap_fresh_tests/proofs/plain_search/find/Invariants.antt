@@ -1,4 +1,4 @@
-use Rattle.ifmap_delta_tests.proofs.stepping.find_in.Given as goal
+use Rattle.ifmap_fresh_tests.proofs.plain_search.find.Given as goal
 
 abbrev pub ghosts-find_with : goal.ghosts-find_with
 ghosts-find_with g a = record { name = a.blank.name; parts = a.blank.parts }

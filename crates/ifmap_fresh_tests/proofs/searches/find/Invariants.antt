@@ -1,4 +1,0 @@
-use Rattle.ifmap_fresh_tests.proofs.searches.find.Given as goal
-
-abbrev pub ghosts-find_with : goal.ghosts-find_with
-ghosts-find_with a = record { name = a.blank.name; parts = a.blank.parts }
