@@ -99,7 +99,8 @@ one_identity e n k o d m l s c p q =
     λ i. Identity (names i) (kinds i) (others i) ((p.domain_is ∙ sym q.domain_is) i)
 
 one_ip : (kind : List ℕ) (IsAddress : List ℕ → List ℕ → Type 0) (single : (text v w : List ℕ) → IsAddress text v → IsAddress text w → v ≡ w)
-    (Made : List ℕ → List ℕ → Identifier) (e : Element) (v d w c : List ℕ) → IsIpAddress kind IsAddress e v d → IsIpAddress kind IsAddress e w c
+    (Made : List ℕ → List ℕ → Identifier) (e : Element) (v d w c : List ℕ)
+    → IsIpAddress kind IsAddress e v d → IsIpAddress kind IsAddress e w c
     → Made v d ≡ Made w c
 one_ip kind IsAddress single Made e v d w c p q =
     let texts : p.text ≡ q.text = one_of (value_of (codes "value") e) p.text q.text p.text_is q.text_is in

@@ -146,7 +146,8 @@ definition_or_none types.TelUri given = inl ([], refl)
 
 -- ---- addresses
 
-address_or_none : (kind : List ℕ) (IsAddress : List ℕ → List ℕ → Type 0) → ((text : List ℕ) → Decided ((value : List ℕ) × IsAddress text value))
+address_or_none : (kind : List ℕ) (IsAddress : List ℕ → List ℕ → Type 0)
+    → ((text : List ℕ) → Decided ((value : List ℕ) × IsAddress text value))
     → (e : Element) → Decided ((value domain : List ℕ) × IsIpAddress kind IsAddress e value domain)
 address_or_none kind IsAddress decides e =
     decided_by
