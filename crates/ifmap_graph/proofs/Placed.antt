@@ -6,15 +6,14 @@ use Rattle.ifmap_ident.specs.declared.identifiers.Identifier.{Identifier}
 use Rattle.ifmap_ident.specs.declared.items.Item.{Item}
 use Rattle.ifmap_ident.specs.Identifiers.{identifier_order}
 use Rattle.ifmap_ident.specs.Items.{IsCanonItem, item_order}
-use Rattle.ifmap_pool.specs.Holdings.{Holdings, IsHeld, IsPool, Names}
+use Rattle.ifmap_pool.specs.Holdings.{Holdings, IsHeld}
 use Rattle.ifmap_view.specs.declared.views.LinkSeen.{LinkSeen}
-use Rattle.ifmap_graph.specs.declared.ends.ItemEnds.{ItemEnds}
 use Rattle.ifmap_graph.specs.declared.shelves.Shelf.{Shelf}
 use Rattle.ifmap_graph.specs.declared.shelves.Shelves.{Shelves}
 use Rattle.ifmap_graph.specs.Bringing.{BringsShelves}
 use Rattle.ifmap_graph.specs.Drafted.{AreBare}
 use Rattle.ifmap_graph.specs.Inside.{IsInside}
-use Rattle.ifmap_graph.specs.Named.{AreEnds, AreIdentifiers, uses_of, uses_in}
+use Rattle.ifmap_graph.specs.Named.{HoldsEnds, uses_of, uses_in}
 use Rattle.ifmap_graph.specs.Shelved.{AreShelved, ItemsRise, StoredSide, rows_on_side, slot_of_item}
 use Rattle.ifmap_graph.specs.Sides.{Sides}
 use Rattle.ifmap_graph.proofs.Arriving.{numbered_comes}
@@ -35,15 +34,6 @@ pub record Places (s t : Shelves) (item : Item) (at : ℕ) (shelf : Shelf) : Typ
   pub entries : t.places.entries ≡ insert_entry item_order s.places.entries item at
   pub rises : ItemsRise t.places.entries
   pub updates : (x : Item) → slot_of_item t x ≡ cond (is_at (item_order item) x) (Some at) (slot_of_item s x)
-
--- the identifiers of an item are held once more, and these are their numbers
-pub record HoldsEnds (old new : Holdings Identifier) (item : Item) (ends : ItemEnds) : Type 0 where
-  pub kept : (v : ℕ) (a : Identifier) → Names identifier_order old v a → Names identifier_order new v a
-  pub whole : IsPool identifier_order new
-  pub keys : AreIdentifiers old → AreIdentifiers new
-  pub numbers : AreEnds new item ends
-  pub held : (a : Identifier) (count : ℕ) → IsHeld identifier_order old a count
-      → IsHeld identifier_order new a (count + uses_of item a)
 
 module _ {s t : Shelves} {item : Item} {at : ℕ} {shelf : Shelf} (p : Places s t item at shelf) where
   module _ (is : AreShelved s) where
@@ -77,5 +67,5 @@ module _ {s t : Shelves} {item : Item} {at : ℕ} {shelf : Shelf} (p : Places s 
         (still_used s.places.entries t.places.entries (get s.slots) (get t.slots) item at at shelf is.placed p.canon p.none refl p.vacant
         p.has p.empty p.others p.entries p.rises is.used)
         (numbered_comes old new h.kept s.places.entries t.places.entries (get s.slots) (get t.slots) item item at at shelf is.placed.live
-        is.numbered p.none refl p.vacant p.has p.others p.entries refl h.numbers)
-        h.whole (h.keys is.keys) room h.held p.none p.entries p.vacant p.has p.empty p.others
+        is.numbered p.none refl p.vacant p.has p.others p.entries refl h.numbered)
+        h.whole (h.keys p.canon.identifiers is.keys) room h.held p.none p.entries p.vacant p.has p.empty p.others

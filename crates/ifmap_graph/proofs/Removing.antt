@@ -1,5 +1,5 @@
 -- An item's shelf is empty and is taken out of its slot, the item out of its place: what is there then.
-use Rattle.std.proofs.Common.{◌≡◌, ◌≢◌, ℕ, ◌+◌, ◌-◌, false, cond, Some, None, List, [], ◌∷◌, ap, ◌∙◌, sym}
+use Rattle.std.proofs.Common.{◌≡◌, ◌≢◌, ℕ, ◌+◌, false, cond, Some, None, List, [], ◌∷◌, ap, ◌∙◌, sym}
 use Rattle.std.proofs.lemmas.Option.{same_Some}
 use Rattle.std.specs.BTreeMap.{is_at}
 use Rattle.std.specs.Map.{remove_entry}
@@ -8,14 +8,13 @@ use Rattle.ifmap_ident.specs.declared.identifiers.Identifier.{Identifier}
 use Rattle.ifmap_ident.specs.declared.items.Item.{Item}
 use Rattle.ifmap_ident.specs.Identifiers.{identifier_order}
 use Rattle.ifmap_ident.specs.Items.{IsItem, item_order}
-use Rattle.ifmap_pool.specs.Holdings.{Holdings, IsHeld, IsPool, Names}
+use Rattle.ifmap_pool.specs.Holdings.{Holdings, IsHeld}
 use Rattle.ifmap_view.specs.declared.views.LinkSeen.{LinkSeen}
-use Rattle.ifmap_graph.specs.declared.ends.ItemEnds.{ItemEnds}
 use Rattle.ifmap_graph.specs.declared.shelves.Shelf.{Shelf}
 use Rattle.ifmap_graph.specs.declared.shelves.Shelves.{Shelves}
 use Rattle.ifmap_graph.specs.Bringing.{BringsShelves}
 use Rattle.ifmap_graph.specs.Inside.{IsInside}
-use Rattle.ifmap_graph.specs.Named.{AreEnds, AreIdentifiers, uses_of, uses_in}
+use Rattle.ifmap_graph.specs.Named.{AreEnds, LetsEndsGo, uses_in}
 use Rattle.ifmap_graph.specs.Shelved.{HasEmptyShelf, IsPlaced, ItemsRise, StoredSide, list_at, rows_on_side, slot_of_item}
 use Rattle.ifmap_graph.specs.Sides.{Sides}
 use Rattle.ifmap_graph.specs.Waits.{waits_on}
@@ -45,14 +44,6 @@ pub record Removes (s t : Shelves) (item : Item) (at : ℕ) (shelf : Shelf) : Ty
   pub entries : t.places.entries ≡ remove_entry (is_at (item_order item)) s.places.entries
   pub rises : ItemsRise t.places.entries
   pub updates : (x : Item) → slot_of_item t x ≡ cond (is_at (item_order item) x) None (slot_of_item s x)
-
--- the identifiers of these ends are let go
-pub record LetsEndsGo (old new : Holdings Identifier) (ends : ItemEnds) : Type 0 where
-  pub whole : IsPool identifier_order new
-  pub keys : AreIdentifiers old → AreIdentifiers new
-  pub before : (v : ℕ) (a : Identifier) → Names identifier_order new v a → Names identifier_order old v a
-  pub held : (i : Item) (a : Identifier) (count : ℕ) → AreEnds old i ends → IsHeld identifier_order old a count
-      → IsHeld identifier_order new a (count - uses_of i a)
 
 module _ {s t : Shelves} {item : Item} {at : ℕ} {shelf : Shelf} (r : Removes s t item at shelf) where
   -- the other shelves stand where they stood

@@ -6,7 +6,7 @@ use Rattle.slab.specs.Slab.{get}
 use Rattle.ifmap_ident.specs.declared.identifiers.Identifier.{Identifier}
 use Rattle.ifmap_ident.specs.declared.items.Item.{Item}
 use Rattle.ifmap_ident.specs.Identifiers.{identifier_order}
-use Rattle.ifmap_ident.specs.Items.{item_order}
+use Rattle.ifmap_ident.specs.Items.{IsCanonItem, item_order}
 use Rattle.ifmap_pool.specs.Holdings.{Holdings, IsHeld, Names}
 use Rattle.ifmap_view.specs.declared.views.LinkSeen.{LinkSeen}
 use Rattle.ifmap_graph.specs.declared.shelves.Shelves.{Shelves}
@@ -61,6 +61,12 @@ HasOwn p a own = IsHeld identifier_order p.names a (uses_in p.shelves.places.ent
 -- and that is fewer than 2^32 times
 abbrev pub HaveFewOwn : GraphFields → Type 0
 HaveFewOwn p = (a : Identifier) → (own : ℕ) × HasOwn p a own × (own < 2 ^ 32)
+
+-- a shelf may come for the item
+pub record CanPlace (p : GraphFields) (item : Item) : Type 0 where
+  pub inside : AreInside p
+  pub canon : IsCanonItem item
+  pub few : HaveFewOwn p
 
 -- there are numbers and room for more, and what is stored and drafted is as before
 pub record AreGrown (old new : GraphFields) : Type 0 where

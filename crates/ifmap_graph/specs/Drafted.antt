@@ -1,5 +1,5 @@
 -- Where drafts stand, and what a write to a shelf leaves.
-use Rattle.std.specs.Prelude.{◌≡◌, ℕ, List, Option, Some, None, option_map}
+use Rattle.std.specs.Prelude.{◌≡◌, ℕ, List, Option, Some, None, IsSome, option_map}
 use Rattle.std.specs.List.{AllByRecursion, IsDistinct}
 use Rattle.std.specs.declared.cmp.Ordering.TheVariants.{Equal}
 use Rattle.slab.specs.Slab.{get}
@@ -9,7 +9,8 @@ use Rattle.ifmap_ident.specs.Items.{item_order, same_item}
 use Rattle.ifmap_graph.specs.declared.ends.ItemEnds.{ItemEnds}
 use Rattle.ifmap_graph.specs.declared.shelves.Shelf.{Shelf}
 use Rattle.ifmap_graph.specs.declared.shelves.Shelves.{Shelves}
-use Rattle.ifmap_graph.specs.Shelved.{AreShelved, HasDraft}
+use Rattle.ifmap_graph.specs.Shelved.{AreShelved, HasDraft, rows_on_side, slot_of_item}
+use Rattle.ifmap_graph.specs.Sides.{list_next, list_now}
 use Rattle.ifmap_graph.specs.Waits.{waits_on}
 
 -- the numbers that the shelf of a slot has
@@ -50,3 +51,15 @@ pub record StayShelved (old new : Shelves) : Type 0 where
 pub record AreLeftBare (old new : Shelves) : Type 0 where
   pub stays : StayShelved old new
   pub bare : AreBare new
+
+-- shelves in order have drafts at none but these items, each of which has a shelf
+pub record HaveDraftsWithin (items : List Item) (s : Shelves) : Type 0 where
+  pub shelved : AreShelved s
+  pub there : AllByRecursion (λ x. IsSome (slot_of_item s x)) items
+  pub within : DraftsWithin items s
+
+-- all drafts were dropped: what is to be stored is what was and is stored
+pub record DropDrafts (old new : Shelves) : Type 0 where
+  pub now : rows_on_side list_now new ≡ rows_on_side list_now old
+  pub next : rows_on_side list_next new ≡ rows_on_side list_now old
+  pub left : AreLeftBare old new

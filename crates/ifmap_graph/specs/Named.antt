@@ -1,12 +1,13 @@
 -- The numbers of an item's identifiers, and how often entries name an identifier.
-use Rattle.std.specs.Prelude.{◌≡◌, ℕ, ◌+◌, List, [], ◌∷◌, Option, Some, None}
+use Rattle.std.specs.Prelude.{◌≡◌, ◌≤◌, ℕ, ◌+◌, ◌-◌, List, [], ◌∷◌, Option, Some, None}
 use Rattle.std.specs.List.{AllByRecursion}
 use Rattle.ifmap_ident.specs.declared.identifiers.Identifier.{Identifier}
 use Rattle.ifmap_ident.specs.declared.items.Item.{Item}
 use Rattle.ifmap_ident.specs.declared.items.Item.TheVariants.{One, Pair}
 use Rattle.ifmap_ident.specs.Canon.{IsIdentifier}
 use Rattle.ifmap_ident.specs.Identifiers.{identifier_order}
-use Rattle.ifmap_pool.specs.Holdings.{Holdings, IsHeld, Names, key_at, once}
+use Rattle.ifmap_ident.specs.Items.{identifiers_of}
+use Rattle.ifmap_pool.specs.Holdings.{Holdings, IsHeld, IsPool, Names, key_at, once}
 use Rattle.ifmap_graph.specs.declared.ends.ItemEnds.{ItemEnds}
 use Rattle.ifmap_graph.specs.declared.ends.ItemEnds.TheVariants as ends
 use Rattle.ifmap_graph.specs.declared.shelves.Shelf.{Shelf}
@@ -44,3 +45,23 @@ AreIdentifiers names = (v : ℕ) (a : Identifier) → key_at names v ≡ Some a 
 -- each identifier is held once for each entry that names it, and as often beside that as somebody holds it
 abbrev pub AreHeld : {X : Type 0} → Holdings Identifier → List (Item × X) → Type 0
 AreHeld names entries = (a : Identifier) → (own : ℕ) × IsHeld identifier_order names a (uses_in entries a + own)
+
+-- an item's identifiers have these numbers, and each is held once more as often as the item names it
+pub record HoldsEnds (old new : Holdings Identifier) (item : Item) (numbers : ItemEnds) : Type 0 where
+  pub numbered : AreEnds new item numbers
+  pub held : (other : Identifier) (count : ℕ) → IsHeld identifier_order old other count
+      → IsHeld identifier_order new other (count + uses_of item other)
+  pub kept : (number : ℕ) (other : Identifier) → Names identifier_order old number other → Names identifier_order new number other
+  pub keys : AllByRecursion IsIdentifier (identifiers_of item) → AreIdentifiers old → AreIdentifiers new
+  pub limit : new.limit ≡ old.limit
+  pub whole : IsPool identifier_order new
+
+-- what these numbers name is held once less as often as their item names it
+pub record LetsEndsGo (old new : Holdings Identifier) (numbers : ItemEnds) : Type 0 where
+  pub held : (item : Item) (other : Identifier) (count : ℕ) → AreEnds old item numbers → IsHeld identifier_order old other count
+      → IsHeld identifier_order new other (count - uses_of item other)
+  pub before : (number : ℕ) (other : Identifier) → Names identifier_order new number other → Names identifier_order old number other
+  pub keys : AreIdentifiers old → AreIdentifiers new
+  pub limit : new.limit ≡ old.limit
+  pub spare : old.spare ≤ new.spare
+  pub whole : IsPool identifier_order new

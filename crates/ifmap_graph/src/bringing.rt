@@ -7,7 +7,7 @@ ghost use Rattle.ifmap_ident.specs.Items.{IsCanonItem, same_item};
 ghost use Rattle.ifmap_pool.specs.Holdings.{IsPool};
 ghost use Rattle.ifmap_view.specs.declared.views.LinkSeen.{LinkSeen};
 ghost use Rattle.ifmap_graph.specs.declared.shelves.Shelves.{Shelves};
-ghost use Rattle.ifmap_graph.specs.Bringing.{AreGrown, AreInside, BringsShelves, HaveFewOwn, flagged_items, graph_fields};
+ghost use Rattle.ifmap_graph.specs.Bringing.{AreGrown, AreInside, BringsShelves, CanPlace, HaveFewOwn, flagged_items, graph_fields};
 ghost use Rattle.ifmap_graph.specs.Drafted.{AreBare};
 ghost use Rattle.ifmap_graph.specs.Inside.{IsInside};
 ghost use Rattle.ifmap_graph.specs.Out.{items_changed};
@@ -55,10 +55,8 @@ fn place_item(
     alloc: Global,
     item: &Item,
 ) -> Result<(), NoMemory>
-    requires inside { AreInside (graph_fields names.old shelves.old links.old.items) }
-    requires canon { IsCanonItem item.now }
+    requires can { CanPlace (graph_fields names.old shelves.old links.old.items) item.now }
     requires absent { slot_of_item shelves.old item.now ≡ None }
-    requires few { HaveFewOwn (graph_fields names.old shelves.old links.old.items) }
     ensures grown { AreGrown (graph_fields names.old shelves.old links.old.items)
         (graph_fields names.new shelves.new links.new.items) }
     ensures brought { OnOk result (BringsShelves (item.now ∷ []) shelves.old shelves.new) }
@@ -81,9 +79,7 @@ fn place_missing(
     alloc: Global,
     item: &Item,
 ) -> Result<bool, NoMemory>
-    requires inside { AreInside (graph_fields names.old shelves.old links.old.items) }
-    requires canon { IsCanonItem item.now }
-    requires few { HaveFewOwn (graph_fields names.old shelves.old links.old.items) }
+    requires can { CanPlace (graph_fields names.old shelves.old links.old.items) item.now }
     ensures grown { AreGrown (graph_fields names.old shelves.old links.old.items)
         (graph_fields names.new shelves.new links.new.items) }
     ensures brought { IfOk result

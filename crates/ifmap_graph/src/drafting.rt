@@ -7,7 +7,7 @@ ghost use Rattle.ifmap_ident.specs.Items.{item_order};
 ghost use Rattle.ifmap_plans.specs.Lists.{next_on};
 ghost use Rattle.ifmap_plans.specs.Plans.{Fits, IsAfter};
 ghost use Rattle.ifmap_view.specs.Rows.{stored_on};
-ghost use Rattle.ifmap_graph.specs.Drafted.{AreBare, AreLeftBare, AreOut, DraftsWithin, StayInPlace, StayShelved, ends_at};
+ghost use Rattle.ifmap_graph.specs.Drafted.{AreBare, AreOut, DraftsWithin, DropDrafts, HaveDraftsWithin, StayInPlace, StayShelved, ends_at};
 ghost use Rattle.ifmap_graph.specs.Making.{CanBeDrafted, HasAllDrafts, HasDrafts};
 ghost use Rattle.ifmap_graph.specs.Out.{items_changed};
 ghost use Rattle.ifmap_graph.specs.Shelved.{AreShelved, HasDraft, slot_of_item, rows_on_side};
@@ -127,16 +127,11 @@ pub(crate) fn drop_plan(
     changes: &[ItemChange],
     ways: &[ReplacedList<LinkSeen>],
 )
-    requires shelved { AreShelved shelves.old }
-    requires there { AllByRecursion (λ x. IsSome (slot_of_item shelves.old x))
-        (items_changed changes.now) }
-    requires within { DraftsWithin (items_changed changes.now) shelves.old }
+    requires drafts { HaveDraftsWithin (items_changed changes.now) shelves.old }
     requires ready { AreExactlyDrafted ways.now links.old.items }
-    ensures now { rows_on_side list_now shelves.new ≡ rows_on_side list_now shelves.old }
-    ensures next { rows_on_side list_next shelves.new ≡ rows_on_side list_now shelves.old }
+    ensures drop { DropDrafts shelves.old shelves.new }
     ensures links { KeepsLinks links.old.items links.new.items }
     ensures none { (v : ℕ) → (sides_at links.new.items v).draft ≡ None }
-    ensures left { AreLeftBare shelves.old shelves.new }
 {
     discard_changes(shelves, changes);
     drop_drafts(links, ways);

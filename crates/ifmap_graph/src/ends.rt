@@ -1,15 +1,14 @@
 //! The numbers of an item's identifiers, held and let go with its shelf.
-ghost use Rattle.std.specs.Prelude.{◌≡◌, ℕ, ◌+◌, ◌-◌, ◌<◌, ◌≤◌, ◌^◌};
-ghost use Rattle.std.specs.List.{AllByRecursion};
+ghost use Rattle.std.specs.Prelude.{ℕ, ◌-◌, ◌<◌, ◌≤◌, ◌≡◌, ◌^◌};
 ghost use Rattle.std.specs.declared.cmp.Ordering.TheVariants.{Less};
 ghost use Rattle.ifmap_ident.specs.declared.identifiers.Identifier.{Identifier};
 ghost use Rattle.ifmap_ident.specs.declared.items.Item.{Item};
-ghost use Rattle.ifmap_ident.specs.declared.items.Item.TheVariants.{One, Pair};
+ghost use Rattle.ifmap_ident.specs.declared.items.Item.TheVariants.{Pair};
 ghost use Rattle.ifmap_ident.specs.Identifiers.{identifier_order};
-ghost use Rattle.ifmap_ident.specs.Canon.{IsIdentifier};
-ghost use Rattle.ifmap_ident.specs.Items.{IsItem, identifiers_of};
-ghost use Rattle.ifmap_pool.specs.Holdings.{IsHeld, IsPool, Names, holds_at, once};
-ghost use Rattle.ifmap_graph.specs.Named.{AreEnds, AreIdentifiers, uses_of};
+ghost use Rattle.ifmap_ident.specs.Items.{IsItem};
+ghost use Rattle.ifmap_pool.specs.Holdings.{Names, holds_at};
+ghost use Rattle.ifmap_graph.specs.declared.ends.ItemEnds.TheVariants as the_ends;
+ghost use Rattle.ifmap_graph.specs.Named.{AreEnds, HoldsEnds, LetsEndsGo};
 
 use ifmap_ident::{Identifier, Item};
 use ifmap_pool::Pool;
@@ -25,15 +24,7 @@ pub enum ItemEnds {
 fn hold_pair(names: &mut Pool<Identifier>, a: Identifier, b: Identifier) -> ItemEnds
     requires room { 2 ≤ names.old.spare }
     requires few { (v : ℕ) → holds_at names.old v < 2 ^ 64 - 2 }
-    ensures ends { AreEnds names.new (Pair a b) result }
-    ensures held { (other : Identifier) (count : ℕ) → IsHeld identifier_order names.old other count
-        → IsHeld identifier_order names.new other (count + uses_of (Pair a b) other) }
-    ensures kept { (number : ℕ) (other : Identifier) → Names identifier_order names.old number other
-        → Names identifier_order names.new number other }
-    ensures keys { IsIdentifier a → IsIdentifier b → AreIdentifiers names.old
-        → AreIdentifiers names.new }
-    ensures limit { names.new.limit ≡ names.old.limit }
-    ensures whole { IsPool identifier_order names.new }
+    ensures { HoldsEnds names.old names.new (Pair a b) result }
 {
     let one = names.hold(a);
     let two = names.hold(b);
@@ -44,15 +35,7 @@ fn hold_pair(names: &mut Pool<Identifier>, a: Identifier, b: Identifier) -> Item
 pub fn hold_ends(names: &mut Pool<Identifier>, item: Item) -> ItemEnds
     requires room { 2 ≤ names.old.spare }
     requires few { (v : ℕ) → holds_at names.old v < 2 ^ 64 - 2 }
-    ensures ends { AreEnds names.new item result }
-    ensures held { (other : Identifier) (count : ℕ) → IsHeld identifier_order names.old other count
-        → IsHeld identifier_order names.new other (count + uses_of item other) }
-    ensures kept { (number : ℕ) (other : Identifier) → Names identifier_order names.old number other
-        → Names identifier_order names.new number other }
-    ensures keys { AllByRecursion IsIdentifier (identifiers_of item) → AreIdentifiers names.old
-        → AreIdentifiers names.new }
-    ensures limit { names.new.limit ≡ names.old.limit }
-    ensures whole { IsPool identifier_order names.new }
+    ensures { HoldsEnds names.old names.new item result }
 {
     match item {
         Item::One(a) => ItemEnds::One(names.hold(a)),
@@ -64,16 +47,7 @@ pub fn hold_ends(names: &mut Pool<Identifier>, item: Item) -> ItemEnds
 fn release_pair(names: &mut Pool<Identifier>, one: u64, two: u64)
     requires { (a : Identifier) × (b : Identifier) × (identifier_order a b ≡ Less)
         × Names identifier_order names.old one a × Names identifier_order names.old two b }
-    ensures held { (a b other : Identifier) (count : ℕ) → Names identifier_order names.old one a
-        → Names identifier_order names.old two b → IsHeld identifier_order names.old other count
-        → IsHeld identifier_order names.new other (count - uses_of (Pair a b) other) }
-    ensures before { (number : ℕ) (other : Identifier)
-        → Names identifier_order names.new number other
-        → Names identifier_order names.old number other }
-    ensures keys { AreIdentifiers names.old → AreIdentifiers names.new }
-    ensures limit { names.new.limit ≡ names.old.limit }
-    ensures spare { names.old.spare ≤ names.new.spare }
-    ensures whole { IsPool identifier_order names.new }
+    ensures { LetsEndsGo names.old names.new (the_ends.Pair one two) }
 {
     names.release(one);
     names.release(two);
@@ -82,16 +56,7 @@ fn release_pair(names: &mut Pool<Identifier>, one: u64, two: u64)
 /// Lets go of the identifiers of an item, by their numbers. It takes no memory.
 pub fn release_ends(names: &mut Pool<Identifier>, ends: ItemEnds)
     requires { (item : Item) × IsItem item × AreEnds names.old item ends }
-    ensures held { (item : Item) (other : Identifier) (count : ℕ) → AreEnds names.old item ends
-        → IsHeld identifier_order names.old other count
-        → IsHeld identifier_order names.new other (count - uses_of item other) }
-    ensures before { (number : ℕ) (other : Identifier)
-        → Names identifier_order names.new number other
-        → Names identifier_order names.old number other }
-    ensures keys { AreIdentifiers names.old → AreIdentifiers names.new }
-    ensures limit { names.new.limit ≡ names.old.limit }
-    ensures spare { names.old.spare ≤ names.new.spare }
-    ensures whole { IsPool identifier_order names.new }
+    ensures { LetsEndsGo names.old names.new ends }
 {
     match ends {
         ItemEnds::One(number) => names.release(number),

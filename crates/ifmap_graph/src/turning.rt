@@ -1,12 +1,11 @@
 //! The items of a change that is out, one after another: their drafts are accepted, or taken back.
 //! No call takes memory.
 ghost use Rattle.std.specs.Prelude.{◌≡◌, ◌<◌, false, IsSome, length, map, set, slice_index_or};
-ghost use Rattle.std.specs.List.{AllByRecursion};
 ghost use Rattle.ifmap_ident.specs.declared.items.Item.{Item};
 ghost use Rattle.ifmap_ident.specs.Items.{same_item};
 ghost use Rattle.ifmap_plans.specs.declared.plans.ItemChange.{ItemChange};
 ghost use Rattle.ifmap_view.specs.Rows.{stored_on};
-ghost use Rattle.ifmap_graph.specs.Drafted.{AreLeftBare, AreOut, DraftsWithin, StayShelved};
+ghost use Rattle.ifmap_graph.specs.Drafted.{AreLeftBare, AreOut, DropDrafts, HaveDraftsWithin, StayShelved};
 ghost use Rattle.ifmap_graph.specs.Out.{items_changed};
 ghost use Rattle.ifmap_graph.specs.Shelved.{AreShelved, HasDraft, slot_of_item, rows_on_side};
 ghost use Rattle.ifmap_graph.specs.Sides.{list_next, list_now};
@@ -91,13 +90,8 @@ fn discard_at(shelves: &mut Shelves, changes: &[ItemChange], i: usize)
 
 // What is stored is what is to be: the drafts are taken back.
 pub(crate) fn discard_changes(shelves: &mut Shelves, changes: &[ItemChange])
-    requires shelved { AreShelved shelves.old }
-    requires there { AllByRecursion (λ x. IsSome (slot_of_item shelves.old x))
-        (items_changed changes.now) }
-    requires within { DraftsWithin (items_changed changes.now) shelves.old }
-    ensures now { rows_on_side list_now shelves.new ≡ rows_on_side list_now shelves.old }
-    ensures next { rows_on_side list_next shelves.new ≡ rows_on_side list_now shelves.old }
-    ensures left { AreLeftBare shelves.old shelves.new }
+    requires { HaveDraftsWithin (items_changed changes.now) shelves.old }
+    ensures { DropDrafts shelves.old shelves.new }
 {
     for i in 0..changes.len() {
         discard_at(shelves, changes, i);

@@ -27,7 +27,7 @@ use Rattle.ifmap_delta.specs.ifmap_region.Bounds.{within_nothing}
 use Rattle.ifmap_standing.specs.Bounds.{IsWithinEach, IsWithinWhere}
 use Rattle.ifmap_standing.specs.declared.standing.Standing.{Standing}
 use Rattle.ifmap_standing.specs.declared.telling.News.{News}
-use Rattle.ifmap_standing.specs.Kept.{AtEach, KeepsSame, StaysRelated}
+use Rattle.ifmap_standing.specs.Kept.{AllKept, AtEach, KeepsSame, StaysRelated}
 use Rattle.ifmap_standing.specs.News.{news_of_each, news_where}
 use Rattle.ifmap_standing.specs.Standing.{standing_of}
 use Rattle.ifmap_standing.specs.Ways.{LeadBack, LeadsBackWhere, Way}
@@ -147,8 +147,7 @@ module _ {old new : ViewSeen} {notes : List Note} {skipped : List Bool} {xs : Li
   before = sym (s.rest n (omega arith)) ∙ here
 
   -- it keeps what it kept before the first was told
-  pub kept_so_far : ((i : ℕ) (y : Standing) → slice_get xs i ≡ Some y → slice_get skipped i ≡ Some false → IsUpToDate old y.subscription)
-      → skip ≡ false → IsUpToDate old x.subscription
+  pub kept_so_far : AllKept (λ y. IsUpToDate old y.subscription) skipped xs → skip ≡ false → IsUpToDate old x.subscription
   kept_so_far kept none = kept n x before (flag ∙ ap Some none)
 
   one_on : take (n + 1) (zip skipped xs) ≡ take n (zip skipped xs) ++ (skip, x) ∷ []
@@ -247,7 +246,7 @@ module _ {old new : ViewSeen} {notes : List Note} {skipped : List Bool} {xs : Li
   news_end = s.says ∙ ap (map (news_of_pair old new notes skipped xs begun)) (take_all n (zip skipped (map standing_of xs))
       (omega (arith, past, length-zip skipped (map standing_of xs))))
 
-  pub kept_end : (i : ℕ) (y : Standing) → slice_get now i ≡ Some y → slice_get skipped i ≡ Some false → IsUpToDate new y.subscription
+  pub kept_end : AllKept (λ y. IsUpToDate new y.subscription) skipped now
   kept_end i y p f = s.kept i y (omega (arith, past, slice_get_within skipped i false f)) p f
 
   pub steps_all : IsWithinEach old new (zip skipped xs) begun steps

@@ -1,5 +1,5 @@
 //! What all subscriptions are told of one change of the graph.
-ghost use Rattle.std.specs.Prelude.{◌≡◌, ◌≤◌, ◌<◌, ℕ, [], Some, true, false, IfOk, OnErr, OnOk, length, map, slice_get, vec_capacity};
+ghost use Rattle.std.specs.Prelude.{◌≡◌, ◌≤◌, ◌<◌, [], Some, true, false, IfOk, OnErr, OnOk, length, map, vec_capacity};
 ghost use Rattle.std.specs.List.{AllByRecursion, zip};
 ghost use Rattle.ifmap_delta.specs.Bounds.{IsWithinBound};
 ghost use Rattle.ifmap_delta.specs.Changes.{ShowsAfter};
@@ -10,12 +10,11 @@ ghost use Rattle.ifmap_delta.specs.ifmap_folds.Differences.{difference};
 ghost use Rattle.ifmap_delta.specs.ifmap_fresh.Fresh.{fresh};
 ghost use Rattle.ifmap_ident.specs.Items.{IsCanonItem};
 ghost use Rattle.ifmap_standing.specs.Bounds.{IsWithinEach, IsWithinWhere};
-ghost use Rattle.ifmap_standing.specs.Kept.{AtEach, KeepsSame, StaysRelated};
+ghost use Rattle.ifmap_standing.specs.Kept.{AreBroughtUpToDate, AtEach, CanBeTold, KeepsSame, StaysRelated};
 ghost use Rattle.ifmap_standing.specs.Located.{IsLocatedIn, IsPlannedIn};
 ghost use Rattle.ifmap_standing.specs.News.{news_of, news_of_each, news_where};
 ghost use Rattle.ifmap_standing.specs.Standing.{standing_of};
 ghost use Rattle.ifmap_standing.specs.Ways.{LeadBack, LeadsBack, LeadsBackWhere};
-ghost use Rattle.ifmap_standing.specs.declared.standing.Standing.{Standing};
 ghost use Rattle.ifmap_view.specs.Views.{IsView};
 
 use crate::standing::Standing;
@@ -49,10 +48,8 @@ pub fn tell_change<G: View, D: View, L: Ledger>(
     change: &GraphChange<'_, G, D>,
     steps: &mut Steps<L>,
 ) -> Result<NewsAndWays, NoMemory>
-    requires flags { length skipped.now ≡ length standing.old }
-    requires kept { let graph = change.now.graph.now in (i : ℕ) (x : Standing)
-        → slice_get standing.old i ≡ Some x → slice_get skipped.now i ≡ Some false
-        → IsUpToDate (view_seen G.rows G.id_at G.links graph) x.subscription }
+    requires can { CanBeTold (view_seen G.rows G.id_at G.links change.now.graph.now) skipped.now
+        standing.old }
     requires change { ShowsAfter (view_seen G.rows G.id_at G.links change.now.graph.now)
         (view_seen D.rows D.id_at D.links change.now.draft.now) change.now.plan.now.changes }
     requires canon { AllByRecursion (λ n. IsCanonItem n.item) change.now.plan.now.notes }
@@ -60,11 +57,9 @@ pub fn tell_change<G: View, D: View, L: Ledger>(
     ensures news { IfOk result (λ told. told.news ≡ news_of_each (G.rows change.now.graph.now)
         (D.rows change.now.draft.now) change.now.plan.now.notes skipped.now
         (map standing_of standing.old)) }
-    ensures kept { let draft = change.now.draft.now in OnOk result ((i : ℕ) (x : Standing)
-        → slice_get standing.new i ≡ Some x → slice_get skipped.now i ≡ Some false
-        → IsUpToDate (view_seen D.rows D.id_at D.links draft) x.subscription) }
-    ensures skipped { OnOk result (AtEach (λ i old new. slice_get skipped.now i ≡ Some true
-        → new ≡ old) standing.old standing.new) }
+    ensures brought { OnOk result (AreBroughtUpToDate
+        (view_seen D.rows D.id_at D.links change.now.draft.now) skipped.now standing.old
+        standing.new) }
     ensures ways { IfOk result (λ told. LeadBack standing.old told.ways standing.new) }
     ensures err { OnErr result (AtEach (λ _. StaysRelated KeepsSame) standing.old standing.new) }
 
@@ -139,13 +134,11 @@ fn tell_all<G: View, D: View, L: Ledger>(
     records: &mut Records,
     steps: &mut Steps<L>,
 ) -> Result<(), NoMemory>
-    requires flags { length skipped.now ≡ length standing.old }
+    requires can { CanBeTold (view_seen G.rows G.id_at G.links change.now.graph.now) skipped.now
+        standing.old }
     requires located { 0 < length skipped.now → IsLocatedIn
         (view_seen G.rows G.id_at G.links change.now.graph.now)
         (view_seen D.rows D.id_at D.links change.now.draft.now) change.now.located }
-    requires kept { let graph = change.now.graph.now in (i : ℕ) (x : Standing)
-        → slice_get standing.old i ≡ Some x → slice_get skipped.now i ≡ Some false
-        → IsUpToDate (view_seen G.rows G.id_at G.links graph) x.subscription }
     requires change { ShowsAfter (view_seen G.rows G.id_at G.links change.now.graph.now)
         (view_seen D.rows D.id_at D.links change.now.draft.now)
         change.now.located.plan.now.changes }
@@ -157,11 +150,9 @@ fn tell_all<G: View, D: View, L: Ledger>(
     ensures news { OnOk result (records.new.news.items ≡ news_of_each
         (G.rows change.now.graph.now) (D.rows change.now.draft.now)
         change.now.located.plan.now.notes skipped.now (map standing_of standing.old)) }
-    ensures kept { let draft = change.now.draft.now in OnOk result ((i : ℕ) (x : Standing)
-        → slice_get standing.new i ≡ Some x → slice_get skipped.now i ≡ Some false
-        → IsUpToDate (view_seen D.rows D.id_at D.links draft) x.subscription) }
-    ensures skipped { OnOk result (AtEach (λ i old new. slice_get skipped.now i ≡ Some true
-        → new ≡ old) standing.old standing.new) }
+    ensures brought { OnOk result (AreBroughtUpToDate
+        (view_seen D.rows D.id_at D.links change.now.draft.now) skipped.now standing.old
+        standing.new) }
     ensures ways { LeadBack standing.old records.new.ways.items standing.new }
     ensures steps { IsWithinEach (view_seen G.rows G.id_at G.links change.now.graph.now)
         (view_seen D.rows D.id_at D.links change.now.draft.now) (zip skipped.now standing.old)
@@ -194,7 +185,6 @@ fn tell_where<G: View, D: View, L: Ledger>(
         (view_seen D.rows D.id_at D.links change.now.draft.now) change.now.located }
     requires kept { is_skipped ≡ false → IsUpToDate
         (view_seen G.rows G.id_at G.links change.now.graph.now) standing.old.subscription }
-    requires canon { AllByRecursion (λ n. IsCanonItem n.item) change.now.located.plan.now.notes }
     ensures news { IfOk result (λ told. told.news ≡ news_where (G.rows change.now.graph.now)
         (D.rows change.now.draft.now) change.now.located.plan.now.notes is_skipped
         (standing_of standing.old)) }
@@ -229,7 +219,6 @@ fn tell_one<G: View, D: View, L: Ledger>(
         (view_seen D.rows D.id_at D.links change.now.draft.now) change.now.located }
     requires kept { IsUpToDate (view_seen G.rows G.id_at G.links change.now.graph.now)
         standing.old.subscription }
-    requires canon { AllByRecursion (λ n. IsCanonItem n.item) change.now.located.plan.now.notes }
     ensures news { IfOk result (λ told. told.news ≡ news_of (G.rows change.now.graph.now)
         (D.rows change.now.draft.now) change.now.located.plan.now.notes
         (standing_of standing.old)) }

@@ -4,6 +4,7 @@ use Rattle.std.specs.BTreeMap.{BTreeMap, get}
 use Rattle.std.specs.List.{AllByRecursion, zip}
 use Rattle.std.specs.Ordering.{nat_cmp}
 pub use Rattle.ifmap_lemmas.specs.Keeping.{kept_items}
+pub use Rattle.ifmap_standing.specs.Kept.{AllKept}
 use Rattle.ifmap_tellings.specs.declared.tellings.Telling.{Telling}
 use Rattle.ifmap_tellings.specs.declared.tellings.Telling.TheVariants.{After, Alone}
 use Rattle.ifmap_ident.specs.declared.codes.Code.TheVariants.{PollResultsTooBig}
@@ -14,10 +15,6 @@ use Rattle.ifmap_search.specs.Sizes.{queue_size, size_beside_entries}
 use Rattle.ifmap_standing.specs.ifmap_session.Sessions.{IsLive, Session, SessionTable, session_with_serial, spare_of, with_error}
 use Rattle.ifmap_standing.specs.declared.standing.Standing.{Standing}
 use Rattle.ifmap_standing.specs.declared.telling.News.{News}
-
--- P holds of each subscription that is not gone
-abbrev pub AllKept : (Standing → Type 0) → List Bool → List Standing → Type 0
-AllKept P gone standing = (i : ℕ) (x : Standing) → slice_get standing i ≡ Some x → slice_get gone i ≡ Some false → P x
 
 -- tellings by the serials of their sessions
 abbrev pub Tellings : Type 0

@@ -6,9 +6,11 @@ use Rattle.ifmap_graph.specs.Inside.{GraphInside}
 use Rattle.ifmap_changes.specs.Changes.{seen_next}
 use Rattle.ifmap_changes.proofs.changes.tell_standing.Goals as goal
 
-pub tell_change-requires-clause-kept : goal.tell_change-requires-clause-kept
-tell_change-requires-clause-kept g c = λ i x e f.
-    c.requires.kept i x (ap (λ l. slice_get l i) (sym c.deref_mut.ensures.value) ∙ e) f
+pub tell_change-requires-clause-can : goal.tell_change-requires-clause-can
+tell_change-requires-clause-can g c = record {
+  flags = c.requires.flags ∙ sym (ap length c.deref_mut.ensures.value);
+  kept = λ i x e f. c.requires.kept i x (ap (λ l. slice_get l i) (sym c.deref_mut.ensures.value) ∙ e) f;
+}
 
 pub returns-clause-kept : goal.returns-clause-kept
 returns-clause-kept g c =
@@ -17,4 +19,4 @@ returns-clause-kept g c =
     (c.tell_change.ensures.same.long ∙ c.deref_mut.ensures.len)
     in on_ok_weaker c.tell_change.result
     (λ f i x e flag. subst (λ (h : GraphInside). IsUpToDate (seen_next h) x.subscription) c.of-draft.ensures
-    (f i x (ap (λ l. slice_get l i) (sym front) ∙ e) flag)) c.tell_change.ensures.kept
+    (f.kept i x (ap (λ l. slice_get l i) (sym front) ∙ e) flag)) c.tell_change.ensures.brought

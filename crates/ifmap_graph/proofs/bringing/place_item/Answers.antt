@@ -16,18 +16,18 @@ pub returns-in_err-make_room-clause-grown : goal.returns-in_err-make_room-clause
 returns-in_err-make_room-clause-grown c =
     grown_room c.args.names.now c.make_room.new.names c.args.shelves.now c.args.links.now.items c.make_room.new.links.items
     c.make_room.ensures.live
-    c.make_room.ensures.whole c.make_room.ensures.same c.make_room.ensures.longer c.requires.inside
+    c.make_room.ensures.whole c.make_room.ensures.same c.make_room.ensures.longer c.requires.can.inside
 
 pub place_shelf-requires-clause-inside : goal.place_shelf-requires-clause-inside
 place_shelf-requires-clause-inside c = (
   c.make_room.new.links.items,
   holds_with_more_room c.args.names.now c.make_room.new.names c.make_room.ensures.live
       (get c.args.shelves.now.slots) c.args.shelves.now.places.entries c.args.links.now.items
-      c.make_room.new.links.items c.make_room.ensures.whole c.make_room.ensures.same c.make_room.ensures.longer c.requires.inside,
+      c.make_room.new.links.items c.make_room.ensures.whole c.make_room.ensures.same c.make_room.ensures.longer c.requires.can.inside,
 )
 
 pub place_shelf-requires-clause-canon : goal.place_shelf-requires-clause-canon
-place_shelf-requires-clause-canon c = subst IsCanonItem (sym c.in_ok-key.ensures) c.requires.canon
+place_shelf-requires-clause-canon c = subst IsCanonItem (sym c.in_ok-key.ensures) c.requires.can.canon
 
 pub place_shelf-requires-clause-same : goal.place_shelf-requires-clause-same
 place_shelf-requires-clause-same c = c.in_ok-ends.ensures ∙ sym c.in_ok-key.ensures
@@ -40,14 +40,14 @@ pub place_shelf-requires-clause-few : goal.place_shelf-requires-clause-few
 place_shelf-requires-clause-few c = λ v.
     let small : length c.args.shelves.now.places.entries < 2 ^ 62 = omega (arith, c.if-len-ge-MOST_ITEMS.false, c.len.ensures.len)
     in subst (λ (n : ℕ). n < 2 ^ 64 - 2) (sym (holds_alike c.args.names.now c.make_room.new.names c.make_room.ensures.live v))
-    (few_holds (graph_fields c.args.names.now c.args.shelves.now c.args.links.now.items) c.requires.inside c.requires.few small v)
+    (few_holds (graph_fields c.args.names.now c.args.shelves.now c.args.links.now.items) c.requires.can.inside c.requires.can.few small v)
 
 pub returns-clause-grown : goal.returns-clause-grown
 returns-clause-grown c =
     let room : IsInside c.make_room.new.names (get c.args.shelves.now.slots) c.args.shelves.now.places.entries c.make_room.new.links.items
     = holds_with_more_room c.args.names.now c.make_room.new.names c.make_room.ensures.live
     (get c.args.shelves.now.slots) c.args.shelves.now.places.entries c.args.links.now.items
-    c.make_room.new.links.items c.make_room.ensures.whole c.make_room.ensures.same c.make_room.ensures.longer c.requires.inside
+    c.make_room.new.links.items c.make_room.ensures.whole c.make_room.ensures.same c.make_room.ensures.longer c.requires.can.inside
     in record {
       inside = c.place_shelf.ensures.inside c.make_room.new.links.items c.in_ok-make_room.ensures.limit room;
       now = c.place_shelf.ensures.rows list_now refl;

@@ -14,20 +14,16 @@ loop-change-init c =
     begins_placing (items_changed c.args.changes.now)
     (graph_fields c.args.names.now c.args.shelves.now c.args.links.now.items) c.requires.inside c.args.fresh.now.items c.requires.none
 
-pub place_missing-requires-clause-inside : goal.place_missing-requires-clause-inside
-place_missing-requires-clause-inside c = c.loop-change.invariant.grown.inside
-
-pub place_missing-requires-clause-canon : goal.place_missing-requires-clause-canon
-place_missing-requires-clause-canon c =
-    subst (λ (x : ItemChange). IsCanonItem x.item) (sym c.change-item.is)
-    (all_at (λ (x : ItemChange). IsCanonItem x.item) c.args.changes.now c.loop-change.change-index c.change-item.result
-    (all_of_map IsCanonItem (λ (x : ItemChange). x.item) c.args.changes.now c.requires.canon) c.loop-change-test.true)
-
-pub place_missing-requires-clause-few : goal.place_missing-requires-clause-few
-place_missing-requires-clause-few c =
-    few_kept (graph_fields c.args.names.now c.args.shelves.now c.args.links.now.items)
-    (graph_fields c.loop-change.names c.loop-change.shelves c.loop-change.links.items)
-    c.loop-change.invariant.grown c.requires.few
+pub place_missing-requires-clause-can : goal.place_missing-requires-clause-can
+place_missing-requires-clause-can c = record {
+  inside = c.loop-change.invariant.grown.inside;
+  canon = subst (λ (x : ItemChange). IsCanonItem x.item) (sym c.change-item.is)
+      (all_at (λ (x : ItemChange). IsCanonItem x.item) c.args.changes.now c.loop-change.change-index c.change-item.result
+      (all_of_map IsCanonItem (λ (x : ItemChange). x.item) c.args.changes.now c.requires.canon) c.loop-change-test.true);
+  few = few_kept (graph_fields c.args.names.now c.args.shelves.now c.args.links.now.items)
+      (graph_fields c.loop-change.names c.loop-change.shelves c.loop-change.links.items)
+      c.loop-change.invariant.grown c.requires.few;
+}
 
 pub loop-change-preserved : goal.loop-change-preserved
 loop-change-preserved c =

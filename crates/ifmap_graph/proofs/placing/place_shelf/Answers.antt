@@ -1,18 +1,13 @@
-use Rattle.std.proofs.Common.{◌≡◌, ◌≤◌, ℕ, ◌+◌, None, length, refl, ap, sym, ◌∙◌, subst}
-use Rattle.std.specs.List.{AllByRecursion}
+use Rattle.std.proofs.Common.{◌≡◌, ◌≤◌, ℕ, None, length, refl, ap, sym, ◌∙◌, subst}
 use Rattle.slab.specs.Slab.{Slab, get}
 use Rattle.ifmap_lemmas.specs.Results.{on_err}
 use Rattle.ifmap_ident.specs.declared.items.Item.{Item}
-use Rattle.ifmap_ident.specs.Canon.{IsIdentifier}
-use Rattle.ifmap_ident.specs.Identifiers.{identifier_order}
-use Rattle.ifmap_ident.specs.Items.{identifiers_of}
-use Rattle.ifmap_pool.specs.Holdings.{IsHeld}
 use Rattle.ifmap_graph.specs.declared.shelves.Shelf.{Shelf}
-use Rattle.ifmap_graph.specs.Named.{AreEnds, uses_of}
+use Rattle.ifmap_graph.specs.Named.{HoldsEnds}
 use Rattle.ifmap_graph.specs.Shelved.{list_at, rows_by}
 use Rattle.ifmap_graph.specs.Waits.{waits_at}
 use Rattle.ifmap_graph.proofs.Brought.{brings_none}
-use Rattle.ifmap_graph.proofs.Placed.{HoldsEnds, Places, placed_bare, placed_brings, placed_inside, placed_own, placed_rows}
+use Rattle.ifmap_graph.proofs.Placed.{Places, placed_bare, placed_brings, placed_inside, placed_own, placed_rows}
 use Rattle.ifmap_graph.proofs.Staying.{ends_of}
 use Rattle.ifmap_graph.proofs.placing.place_shelf.Goals as goal
 use Rattle.ifmap_graph.proofs.placing.place_shelf.Goals.{After-insert_reserved, After-hold_ends-ends}
@@ -38,16 +33,9 @@ places c =
     }
 
 holds : (c : After-hold_ends-ends) → HoldsEnds c.args.names.now c.hold_ends-ends.new.names c.args.item c.hold_ends-ends.result
-holds c = record {
-  kept = c.hold_ends-ends.ensures.kept;
-  whole = c.hold_ends-ends.ensures.whole;
-  keys = c.hold_ends-ends.ensures.keys
-      (subst (λ (i : Item). AllByRecursion IsIdentifier (identifiers_of i)) (sym c.requires.same) c.requires.canon.identifiers);
-  numbers = subst (λ (i : Item). AreEnds c.hold_ends-ends.new.names i c.hold_ends-ends.result) c.requires.same
-      c.hold_ends-ends.ensures.ends;
-  held = λ a count h. subst (λ (i : Item). IsHeld identifier_order c.hold_ends-ends.new.names a (count + uses_of i a))
-      c.requires.same (c.hold_ends-ends.ensures.held a count h);
-}
+holds c =
+    subst (λ (i : Item). HoldsEnds c.args.names.now c.hold_ends-ends.new.names i c.hold_ends-ends.result) c.requires.same
+    c.hold_ends-ends.ensures
 
 pub returns-in_err-reserve-clause-inside : goal.returns-in_err-reserve-clause-inside
 returns-in_err-reserve-clause-inside c = λ links room is. rw c.in_err-reserve.ensures.rest_kept is

@@ -1,9 +1,9 @@
 use Rattle.std.proofs.Common.{Option, IsSome, refl, sym, subst}
 use Rattle.ifmap_graph.specs.declared.shelves.Shelf.{Shelf}
 use Rattle.ifmap_graph.specs.Sides.{list_next, list_now}
-use Rattle.ifmap_graph.proofs.Removing.{LetsEndsGo, Removes, empty_shelf, empty_there, removed_before, removed_brings, removed_ends, removed_inside, removed_others, removed_own, removed_rows}
+use Rattle.ifmap_graph.proofs.Removing.{Removes, empty_shelf, empty_there, removed_before, removed_brings, removed_ends, removed_inside, removed_others, removed_own, removed_rows}
 use Rattle.ifmap_graph.proofs.placing.remove_shelf.Goals as goal
-use Rattle.ifmap_graph.proofs.placing.remove_shelf.Goals.{After-remove-shelf, After-release_ends}
+use Rattle.ifmap_graph.proofs.placing.remove_shelf.Goals.{After-remove-shelf}
 
 removes : (c : After-remove-shelf) → Removes c.args.shelves.now (record { places = c.remove.new.self; slots = c.remove-shelf.new.self })
     c.args.item.now c.in-Some.at c.remove-shelf.result
@@ -19,14 +19,6 @@ removes c = record {
   updates = c.remove.ensures.updates.0;
 }
 
-lets_go : (c : After-release_ends) → LetsEndsGo c.args.names.now c.release_ends.new.names c.remove-shelf.result.ends
-lets_go c = record {
-  whole = c.release_ends.ensures.whole;
-  keys = c.release_ends.ensures.keys;
-  before = c.release_ends.ensures.before;
-  held = c.release_ends.ensures.held;
-}
-
 pub remove-shelf-requires : goal.remove-shelf-requires
 remove-shelf-requires c =
     let had = empty_there c.args.shelves.now c.args.item.now c.in-Some.at c.requires.empty (sym c.in-Some.ensures.value)
@@ -39,13 +31,13 @@ release_ends-requires c =
 pub returns-clause-inside : goal.returns-clause-inside
 returns-clause-inside c = λ links is.
     let place = goal.at.returns-clause-inside c
-    in removed_inside (removes place.After-remove-shelf) c.args.names.now links is (lets_go place.After-release_ends)
+    in removed_inside (removes place.After-remove-shelf) c.args.names.now links is c.release_ends.ensures
 
 pub returns-clause-own : goal.returns-clause-own
 returns-clause-own c =
     let place = goal.at.returns-clause-own c
     in removed_own (removes place.After-remove-shelf) c.args.names.now c.requires.inside.0 c.requires.inside.1
-    (lets_go place.After-release_ends)
+    c.release_ends.ensures
 
 pub returns-clause-now : goal.returns-clause-now
 returns-clause-now c = removed_rows (removes (goal.at.returns-clause-now c).After-remove-shelf) c.requires.inside.1.placed list_now refl

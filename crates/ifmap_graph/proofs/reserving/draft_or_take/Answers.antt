@@ -21,9 +21,9 @@ use Rattle.ifmap_graph.proofs.reserving.draft_or_take.Goals.{After-drop_plan}
 -- once the drafts are dropped, the shelves are where they were, and all is in order
 stay : (c : After-drop_plan) → StayInPlace c.args.shelves.now c.drop_plan.new.shelves
 stay c = record {
-  ends = λ at. c.drop_plan.ensures.left.stays.place.ends at ∙ c.draft_and_wait.ensures.ends at;
-  waits = λ x. c.drop_plan.ensures.left.stays.place.waits x ∙ c.in-Err.ensures.waits x;
-  places = c.drop_plan.ensures.left.stays.place.places ∙ c.draft_and_wait.ensures.places;
+  ends = λ at. c.drop_plan.ensures.drop.left.stays.place.ends at ∙ c.draft_and_wait.ensures.ends at;
+  waits = λ x. c.drop_plan.ensures.drop.left.stays.place.waits x ∙ c.in-Err.ensures.waits x;
+  places = c.drop_plan.ensures.drop.left.stays.place.places ∙ c.draft_and_wait.ensures.places;
 }
 
 inside : (c : After-drop_plan) → IsInside c.args.names.now (get c.drop_plan.new.shelves.slots) c.drop_plan.new.shelves.places.entries
@@ -31,8 +31,8 @@ inside : (c : After-drop_plan) → IsInside c.args.names.now (get c.drop_plan.ne
 inside c =
     let drafts = c.draft_and_wait.ensures.drafts
     in inside_dropped c.args.names.now c.args.shelves.now c.drop_plan.new.shelves c.args.links.now.items c.drop_plan.new.links.items
-    c.requires.inside c.drop_plan.ensures.left.stays.shelved (stay c).places (stay c).ends (c.drop_plan.ensures.now ∙ drafts.now)
-    (c.drop_plan.ensures.next ∙ drafts.now)
+    c.requires.inside c.drop_plan.ensures.drop.left.stays.shelved (stay c).places (stay c).ends (c.drop_plan.ensures.drop.now ∙ drafts.now)
+    (c.drop_plan.ensures.drop.next ∙ drafts.now)
     (kept_both c.args.links.now.items c.draft_and_wait.new.links.items c.drop_plan.new.links.items drafts.links c.drop_plan.ensures.links)
     c.drop_plan.ensures.none
 
@@ -46,23 +46,27 @@ draft_and_wait-requires c = record {
   fits = c.requires.fits;
 }
 
-pub drop_plan-requires-clause-there : goal.drop_plan-requires-clause-there
-drop_plan-requires-clause-there c =
-    subst (λ p. AllByRecursion (λ x. IsSome (lookup (is_at (item_order x)) p.entries)) (items_changed c.args.coming.now.changes.now))
-    (sym c.draft_and_wait.ensures.places)
-    c.requires.there
+pub drop_plan-requires-clause-drafts : goal.drop_plan-requires-clause-drafts
+drop_plan-requires-clause-drafts c = record {
+  shelved = c.draft_and_wait.ensures.drafts.shelved;
+  there = subst
+      (λ p. AllByRecursion (λ x. IsSome (lookup (is_at (item_order x)) p.entries)) (items_changed c.args.coming.now.changes.now))
+      (sym c.draft_and_wait.ensures.places)
+      c.requires.there;
+  within = c.draft_and_wait.ensures.drafts.within;
+}
 
 pub take_shelves-requires : goal.take_shelves-requires
 take_shelves-requires c =
     let place = (goal.at.take_shelves-requires c).After-drop_plan
     in record {
       inside = (c.drop_plan.new.links.items, inside place);
-      bare = c.drop_plan.ensures.left.bare;
+      bare = c.drop_plan.ensures.drop.left.bare;
       apart = c.requires.fits.apart;
       long = c.requires.long;
       brought = (
         c.requires.brought.0,
-        c.requires.brought.1 ∙ sym (c.drop_plan.ensures.now ∙ c.draft_and_wait.ensures.drafts.now),
+        c.requires.brought.1 ∙ sym (c.drop_plan.ensures.drop.now ∙ c.draft_and_wait.ensures.drafts.now),
         brings_written (flagged_items (items_changed c.args.coming.now.changes.now) c.args.coming.now.fresh.now) c.requires.brought.0
             c.args.shelves.now c.drop_plan.new.shelves c.requires.brought.2 (stay place).places (stay place).ends (stay place).waits,
       );
@@ -86,8 +90,8 @@ returns-in-Err-clause-unmade c = λ first is grown brought.
     in let less = c.take_shelves.ensures.less
     in unmade_by first c.args.names.now c.take_shelves.new.names c.take_shelves.new.shelves c.drop_plan.new.links.items is
     c.requires.inside.pool (less.inside c.drop_plan.new.links.items (inside place))
-    (less.bare c.drop_plan.ensures.left.bare) c.drop_plan.ensures.none
-    (less.rows ∙ c.drop_plan.ensures.now ∙ drafts.now ∙ grown.now)
+    (less.bare c.drop_plan.ensures.drop.left.bare) c.drop_plan.ensures.none
+    (less.rows ∙ c.drop_plan.ensures.drop.now ∙ drafts.now ∙ grown.now)
     (λ v. c.drop_plan.ensures.links.now v ∙ drafts.links.now v ∙ ap (λ s. s.now) (grown.links v))
     (omega (arith, grown.longer, c.drop_plan.ensures.links.long, drafts.links.long))
     (λ a own h. less.own a own

@@ -16,12 +16,13 @@ loop-at-init g c =
 
 pub tell_where-requires-clause-kept : goal.tell_where-requires-clause-kept
 tell_where-requires-clause-kept g c =
-    kept_so_far c.loop-at.invariant.stage c.requires.flags c.loop-at-test.true c.index-standing-at.result c.requires.kept
+    kept_so_far c.loop-at.invariant.stage c.requires.can.flags c.loop-at-test.true c.index-standing-at.result c.requires.can.kept
 
 pub tell_where-requires-clause-planned : goal.tell_where-requires-clause-planned
 tell_where-requires-clause-planned g c = record {
   located = c.requires.located (omega (arith, c.loop-at-test.true));
   change = c.requires.change;
+  notes = c.requires.canon;
 }
 
 pub push_reserved-requires : goal.push_reserved-requires
@@ -40,7 +41,7 @@ loop-at-preserved g c =
     in let told = c.in_ok-told.told
     in let e = c.in_ok-told.ensures
     in record {
-      stage = stage_next l.invariant.stage c.requires.flags c.loop-at-test.true c.index-standing-at.result c.tell_where.new.standing
+      stage = stage_next l.invariant.stage c.requires.can.flags c.loop-at-test.true c.index-standing-at.result c.tell_where.new.standing
           c.tell_where.new.steps c.tell_where.ensures.steps told.news told.way e.news e.way e.skipped e.kept c.push_reserved.ensures.items
           c.push_reserved-in-loop-at.ensures.items;
       news_room = c.push_reserved.ensures.capacity ∙ l.invariant.news_room;
@@ -49,22 +50,22 @@ loop-at-preserved g c =
 
 pub returns-in_err-told-clause-ways : goal.returns-in_err-told-clause-ways
 returns-in_err-told-clause-ways g c =
-    ways_failed c.loop-at.invariant.stage c.requires.flags c.loop-at-test.true c.index-standing-at.result c.tell_where.new.standing
+    ways_failed c.loop-at.invariant.stage c.requires.can.flags c.loop-at-test.true c.index-standing-at.result c.tell_where.new.standing
     c.in_err-told.ensures.err
 
 pub returns-in_err-told-clause-steps : goal.returns-in_err-told-clause-steps
 returns-in_err-told-clause-steps g c =
-    steps_end c.loop-at.invariant.stage c.requires.flags c.loop-at-test.true c.index-standing-at.result c.tell_where.new.steps
+    steps_end c.loop-at.invariant.stage c.requires.can.flags c.loop-at-test.true c.index-standing-at.result c.tell_where.new.steps
     c.tell_where.ensures.steps
 
 pub returns-clause-news : goal.returns-clause-news
 returns-clause-news g c = news_end c.loop-at.invariant.stage (omega (arith, c.loop-at-test.false))
 
-pub returns-clause-kept : goal.returns-clause-kept
-returns-clause-kept g c = kept_end c.loop-at.invariant.stage (omega (arith, c.loop-at-test.false))
-
-pub returns-clause-skipped : goal.returns-clause-skipped
-returns-clause-skipped g c = c.loop-at.invariant.stage.skips
+pub returns-clause-brought : goal.returns-clause-brought
+returns-clause-brought g c = record {
+  kept = kept_end c.loop-at.invariant.stage (omega (arith, c.loop-at-test.false));
+  same = c.loop-at.invariant.stage.skips;
+}
 
 pub returns-clause-ways : goal.returns-clause-ways
 returns-clause-ways g c = c.loop-at.invariant.stage.lead

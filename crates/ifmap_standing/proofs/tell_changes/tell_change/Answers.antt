@@ -64,7 +64,7 @@ returns-in_err-located-clause-steps g c =
 
 pub tell_all-requires-clause-located : goal.tell_all-requires-clause-located
 tell_all-requires-clause-located g c = λ some.
-    let is : 0 < length c.args.standing.now = omega (arith, some, c.requires.flags)
+    let is : 0 < length c.args.standing.now = omega (arith, some, c.requires.can.flags)
     in record {
       graph = c.look_at_views.ensures.graph is;
       draft = c.look_at_views.ensures.draft is;

@@ -16,6 +16,9 @@ take_over-requires-clause-planned g c =
 pub news_of-requires-clause-located : goal.news_of-requires-clause-located
 news_of-requires-clause-located g c = c.requires.planned.located
 
+pub news_of-requires-clause-canon : goal.news_of-requires-clause-canon
+news_of-requires-clause-canon g c = c.requires.planned.notes
+
 pub news_of-requires-clause-deleted : goal.news_of-requires-clause-deleted
 news_of-requires-clause-deleted g c =
     let a = g.G.View.rows c.args.change.now.graph.now
