@@ -9,7 +9,7 @@ use Rattle.ifmap_pool.specs.Holdings.{Holdings}
 use Rattle.ifmap_view.specs.declared.views.LinkSeen.{LinkSeen}
 use Rattle.ifmap_view.specs.Rows.{stored_on}
 use Rattle.ifmap_graph.specs.declared.shelves.Shelves.{Shelves}
-use Rattle.ifmap_graph.specs.Back.{KeepsBacks}
+use Rattle.ifmap_graph.specs.Back.{KeepsBacks, KeepsShelves}
 use Rattle.ifmap_graph.specs.Inside.{GraphInside}
 use Rattle.ifmap_graph.specs.Out.{IsDrafted}
 use Rattle.ifmap_graph.specs.Seen.{AwaitsMore, IsStill, StaysLean, waits_in, waits_there_in}
@@ -19,13 +19,6 @@ use Rattle.ifmap_graph.specs.Stays.{HasSameShelf, StayPlaced, ends_there_in}
 use Rattle.ifmap_graph.specs.Turning.{sides_at}
 use Rattle.ifmap_graph.proofs.Backs.{keeps_backs}
 use Rattle.ifmap_graph.proofs.Settled.{inside_of}
-
--- what is so after a call of what contracts see of shelves, of links and of ways back
-pub record KeepsShelves (old new : GraphInside) : Type 0 where
-  pub still : IsStill old → IsStill new
-  pub waits : AwaitsMore [] old new
-  pub backs : KeepsBacks old new
-  pub lean : StaysLean old new
 
 module _ (old new : GraphInside) (shelves : new.shelves ≡ old.shelves) (places : new.places ≡ old.places)
     (links : (v : ℕ) → sides_at new.links v ≡ sides_at old.links v) (long : length old.links ≤ length new.links) where
@@ -62,7 +55,14 @@ module _ (old new : GraphInside) (shelves : new.shelves ≡ old.shelves) (places
   }
 
   kept_shelves : KeepsShelves old new
-  kept_shelves = record { still = kept_still; waits = kept_waits; backs = kept_backs; lean = kept_lean }
+  kept_shelves = record {
+    shelves = shelves;
+    places = places;
+    still = kept_still;
+    waits = kept_waits;
+    backs = kept_backs;
+    lean = kept_lean;
+  }
 
 -- identifiers were held or let go, and links may have more room
 pub shelves_kept : (names later : Holdings Identifier) (s : Shelves) (links longer : List (Sides LinkSeen)) {old : GraphInside}
@@ -71,3 +71,7 @@ pub shelves_kept : (names later : Holdings Identifier) (s : Shelves) (links long
 shelves_kept names later s links longer is same long =
     subst (λ (h : GraphInside). KeepsShelves h (inside_of later s longer)) is
     (kept_shelves (inside_of names s links) (inside_of later s longer) refl refl same long)
+
+-- nothing changed
+pub shelves_same : (h : GraphInside) → KeepsShelves h h
+shelves_same h = kept_shelves h h refl refl (λ v. refl) (omega arith)

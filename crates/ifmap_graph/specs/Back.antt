@@ -15,7 +15,7 @@ use Rattle.ifmap_graph.specs.Inside.{GraphInside, links_at}
 use Rattle.ifmap_graph.specs.Joined.{two_of}
 use Rattle.ifmap_graph.specs.Linked.{link_places}
 use Rattle.ifmap_graph.specs.Out.{items_changed}
-use Rattle.ifmap_graph.specs.Seen.{AreAwaited, rows_now}
+use Rattle.ifmap_graph.specs.Seen.{AreAwaited, AwaitsMore, IsStill, StaysLean, rows_now}
 use Rattle.ifmap_graph.specs.Sides.{list_now}
 use Rattle.ifmap_graph.specs.Stays.{ends_in, place_in}
 use Rattle.ifmap_graph.specs.Turning.{AreWithin, restore_each}
@@ -60,3 +60,12 @@ abbrev pub KeepsOtherBacks : List Item → GraphInside → GraphInside → Type 
 KeepsOtherBacks items old new =
     (u : Undo) (rows : List Attachment) (links : ℕ → List LinkSeen) → AreAwaited (items ++ items_changed u.plan.changes) old
     → IsUndoTo u rows links old → IsUndoTo u rows links new
+
+-- shelves stay with what is stored and drafted on them and waited for, and so do ways back
+pub record KeepsShelves (old new : GraphInside) : Type 0 where
+  pub shelves : new.shelves ≡ old.shelves
+  pub places : new.places ≡ old.places
+  pub still : IsStill old → IsStill new
+  pub waits : AwaitsMore [] old new
+  pub backs : KeepsBacks old new
+  pub lean : StaysLean old new

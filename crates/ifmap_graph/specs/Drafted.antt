@@ -63,3 +63,11 @@ pub record DropDrafts (old new : Shelves) : Type 0 where
   pub now : rows_on_side list_now new ≡ rows_on_side list_now old
   pub next : rows_on_side list_next new ≡ rows_on_side list_now old
   pub left : AreLeftBare old new
+
+-- shelves in order stay in their slots with their numbers, and with what is stored and what is to be
+pub record KeepRows (old new : Shelves) : Type 0 where
+  pub shelved : AreShelved new
+  pub now : rows_on_side list_now new ≡ rows_on_side list_now old
+  pub next : rows_on_side list_next new ≡ rows_on_side list_next old
+  pub ends : (at : ℕ) → ends_at new at ≡ ends_at old at
+  pub places : new.places ≡ old.places

@@ -1,12 +1,12 @@
 //! Holds of identifiers that others than items have.
-ghost use Rattle.std.specs.Prelude.{◌≡◌, ℕ, ◌+◌, ◌-◌, ◌<◌, [], Some, IfOk, IsSome, OnOk, OnErr};
+ghost use Rattle.std.specs.Prelude.{◌≡◌, ℕ, ◌+◌, ◌-◌, ◌<◌, Some, IfOk, IsSome, OnOk, OnErr};
 ghost use Rattle.ifmap_ident.specs.declared.identifiers.Identifier.{Identifier};
 ghost use Rattle.ifmap_ident.specs.Canon.{IsIdentifier};
 ghost use Rattle.ifmap_ident.specs.Identifiers.{identifier_order};
 ghost use Rattle.ifmap_pool.specs.Holdings.{holds_at, key_at, once};
-ghost use Rattle.ifmap_graph.specs.Back.{KeepsBacks};
+ghost use Rattle.ifmap_graph.specs.Back.{KeepsShelves};
 ghost use Rattle.ifmap_graph.specs.Inside.{IsOwn};
-ghost use Rattle.ifmap_graph.specs.Seen.{AwaitsMore, BringsNoNumbers, HasFewOwn, IsStill, StaysLean};
+ghost use Rattle.ifmap_graph.specs.Seen.{BringsNoNumbers, HasFewOwn};
 ghost use Rattle.ifmap_graph.specs.Turning.{sides_at};
 
 use crate::bringing::MOST_ITEMS;
@@ -30,13 +30,8 @@ impl Graph {
             → 1 < holds_at self.new.names v) }
         ensures own { OnOk result ((a : Identifier) (own : ℕ) → IsOwn self.old a own
             → IsOwn self.new a (own + once identifier_order id.now a)) }
-        ensures shelves { self.new.shelves ≡ self.old.shelves }
         ensures links { (v : ℕ) → sides_at self.new.links v ≡ sides_at self.old.links v }
-        ensures places { self.new.places ≡ self.old.places }
-        ensures still { IsStill self.old → IsStill self.new }
-        ensures waits { AwaitsMore [] self.old self.new }
-        ensures lean { StaysLean self.old self.new }
-        ensures backs { KeepsBacks self.old self.new }
+        ensures keeps { KeepsShelves self.old self.new }
         ensures err { OnErr result (self.new.names.live ≡ self.old.names.live) }
     {
         bytes_tell_identifiers_apart();
@@ -59,13 +54,8 @@ impl Graph {
         ensures numbers { BringsNoNumbers self.old self.new }
         ensures stays { (v : ℕ) → (v ≡ number → 1 < holds_at self.old.names v)
             → key_at self.new.names v ≡ key_at self.old.names v }
-        ensures shelves { self.new.shelves ≡ self.old.shelves }
         ensures links { self.new.links ≡ self.old.links }
-        ensures places { self.new.places ≡ self.old.places }
-        ensures still { IsStill self.old → IsStill self.new }
-        ensures waits { AwaitsMore [] self.old self.new }
-        ensures lean { StaysLean self.old self.new }
-        ensures backs { KeepsBacks self.old self.new }
+        ensures keeps { KeepsShelves self.old self.new }
     {
         self.names.release(number);
     }

@@ -9,7 +9,7 @@ ghost use Rattle.ifmap_meta.specs.declared.stored.Stored.{Stored};
 ghost use Rattle.ifmap_plans.specs.Lists.{next_on};
 ghost use Rattle.ifmap_view.specs.Rows.{stored_on};
 ghost use Rattle.ifmap_graph.specs.declared.shelves.Shelf.{Shelf};
-ghost use Rattle.ifmap_graph.specs.Drafted.{AreBare, StayShelved, ends_at};
+ghost use Rattle.ifmap_graph.specs.Drafted.{AreBare, KeepRows, StayShelved};
 ghost use Rattle.ifmap_graph.specs.Shelved.{AreShelved, HasDraft, HasNoDraft, slot_of_item, rows_on_side};
 ghost use Rattle.ifmap_graph.specs.Sides.{list_next, list_now};
 ghost use Rattle.ifmap_graph.specs.Waits.{WaitsFor, waits_on};
@@ -178,14 +178,10 @@ impl Shelves {
         requires shelved { AreShelved self.old }
         requires there { IsSome (slot_of_item self.old item.now) }
         requires few { waits_on self.old item.now < 2 ^ 64 - 1 }
-        ensures shelved { AreShelved self.new }
+        ensures keeps { KeepRows self.old self.new }
         ensures waits { WaitsFor (item.now ∷ []) self.old self.new }
         ensures drafts { (x : Item) → HasDraft self.new x → HasDraft self.old x }
         ensures kept { (x : Item) → HasDraft self.old x → HasDraft self.new x }
-        ensures now { rows_on_side list_now self.new ≡ rows_on_side list_now self.old }
-        ensures next { rows_on_side list_next self.new ≡ rows_on_side list_next self.old }
-        ensures ends { (at : ℕ) → ends_at self.new at ≡ ends_at self.old at }
-        ensures places { self.new.places ≡ self.old.places }
     {
         let at = self.places[item];
         wait_at(&mut self.slots, at);
@@ -196,14 +192,10 @@ impl Shelves {
         requires shelved { AreShelved self.old }
         requires there { IsSome (slot_of_item self.old item.now) }
         requires waited { 0 < waits_on self.old item.now }
-        ensures shelved { AreShelved self.new }
+        ensures keeps { KeepRows self.old self.new }
         ensures left { result ≡ waits_on self.new item.now }
         ensures waits { WaitsFor (item.now ∷ []) self.new self.old }
         ensures bare { AreBare self.old → AreBare self.new }
-        ensures now { rows_on_side list_now self.new ≡ rows_on_side list_now self.old }
-        ensures next { rows_on_side list_next self.new ≡ rows_on_side list_next self.old }
-        ensures ends { (at : ℕ) → ends_at self.new at ≡ ends_at self.old at }
-        ensures places { self.new.places ≡ self.old.places }
     {
         let at = self.places[item];
         unwait_at(&mut self.slots, at)

@@ -7,5 +7,5 @@ hold-requires-clause-few c = few_empty c.new-graph.result c.new-graph.ensures.ow
 pub returns-clause-quiet : goal.returns-clause-quiet
 returns-clause-quiet c =
     let held = c.in_ok-number.ensures
-    in new_quiet c.new-graph.result c.hold.new.self c.args.id.now c.new-graph.ensures.shelves c.hold.ensures.shelves
-    (c.hold.ensures.still c.new-graph.ensures.still) c.new-graph.ensures.own held.own
+    in new_quiet c.new-graph.result c.hold.new.self c.args.id.now c.new-graph.ensures.shelves c.hold.ensures.keeps.shelves
+    (c.hold.ensures.keeps.still c.new-graph.ensures.still) c.new-graph.ensures.own held.own

@@ -24,8 +24,8 @@ loop-change-preserved c =
     let here = item_at c.args.changes.now c.loop-change.change-index c.change-item.result c.loop-change-test.true c.change-item.is
     in waits_on_more (items_changed c.args.changes.now) c.args.shelves.now c.loop-change.shelves c.loop-change.change-index
     c.change-item.result.item here.0 here.1 c.loop-change.invariant c.wait.new.self
-    c.wait.ensures.shelved c.wait.ensures.now c.wait.ensures.next c.wait.ensures.waits
-    c.wait.ensures.drafts c.wait.ensures.kept c.wait.ensures.ends c.wait.ensures.places
+    c.wait.ensures.keeps.shelved c.wait.ensures.keeps.now c.wait.ensures.keeps.next c.wait.ensures.waits
+    c.wait.ensures.drafts c.wait.ensures.kept c.wait.ensures.keeps.ends c.wait.ensures.keeps.places
 
 pub returns : goal.returns
 returns c = record {

@@ -7,5 +7,5 @@ release-requires c = held_out c.args.graph.now c.requires.0 c.args.number c.args
 pub returns-clause-steady : goal.returns-clause-steady
 returns-clause-steady c = λ standing was.
     let_go_steady c.args.graph.now standing c.args.number c.args.start.now was c.number-same.ensures.whole
-    c.bytes_tell_identifiers_apart.ensures c.release.new.self c.release.ensures.shelves c.release.ensures.still c.release.ensures.own
-    c.release.ensures.stays
+    c.bytes_tell_identifiers_apart.ensures c.release.new.self c.release.ensures.keeps.shelves c.release.ensures.keeps.still
+    c.release.ensures.own c.release.ensures.stays

@@ -4,13 +4,14 @@ use Rattle.slab.specs.Slab.{get}
 use Rattle.ifmap_ident.specs.Canon.{IsIdentifier}
 use Rattle.ifmap_ident.specs.Identifiers.{identifier_order}
 use Rattle.ifmap_pool.specs.Holdings.{IsHeld, Names, once}
+use Rattle.ifmap_graph.specs.Back.{KeepsShelves}
 use Rattle.ifmap_graph.specs.Inside.{IsInside, shown_shelves}
 use Rattle.ifmap_graph.specs.Named.{AreIdentifiers, uses_in}
 use Rattle.ifmap_graph.specs.Bringing.{graph_fields}
 use Rattle.ifmap_graph.proofs.Grown.{few_holds}
 use Rattle.ifmap_graph.proofs.Changed.{held_alike, inside_held, keys_alike, names_alike, holds_with_more_room}
 use Rattle.ifmap_graph.proofs.KeyHolds.{still_identifiers}
-use Rattle.ifmap_graph.proofs.Kept.{KeepsShelves, shelves_kept}
+use Rattle.ifmap_graph.proofs.Kept.{shelves_kept}
 use Rattle.ifmap_graph.proofs.Settled.{few_from, inside_of}
 use Rattle.ifmap_graph.proofs.Own.{held_again, holds_alike, key_kept, key_told}
 use Rattle.ifmap_graph.proofs.graph.Graph.hold.Goals as goal
@@ -106,38 +107,11 @@ returns-clause-own c =
 pub returns-clause-links : goal.returns-clause-links
 returns-clause-links c = rw (← c.self.view_is) c.lengthen.ensures.same
 
-pub returns-clause-still : goal.returns-clause-still
-returns-clause-still c = (kept_by_hold (goal.at.returns-clause-still c).After-hold).still
+pub returns-clause-keeps : goal.returns-clause-keeps
+returns-clause-keeps c = kept_by_hold (goal.at.returns-clause-keeps c).After-hold
 
-pub returns-in_err-lengthen-clause-still : goal.returns-in_err-lengthen-clause-still
-returns-in_err-lengthen-clause-still c = (kept_by_links (goal.at.returns-in_err-lengthen-clause-still c).After-lengthen).still
+pub returns-in_err-lengthen-clause-keeps : goal.returns-in_err-lengthen-clause-keeps
+returns-in_err-lengthen-clause-keeps c = kept_by_links (goal.at.returns-in_err-lengthen-clause-keeps c).After-lengthen
 
-pub returns-in_err-reserve-clause-still : goal.returns-in_err-reserve-clause-still
-returns-in_err-reserve-clause-still c = (kept_by_room (goal.at.returns-in_err-reserve-clause-still c).After-reserve).still
-
-pub returns-clause-waits : goal.returns-clause-waits
-returns-clause-waits c = (kept_by_hold (goal.at.returns-clause-waits c).After-hold).waits
-
-pub returns-in_err-lengthen-clause-waits : goal.returns-in_err-lengthen-clause-waits
-returns-in_err-lengthen-clause-waits c = (kept_by_links (goal.at.returns-in_err-lengthen-clause-waits c).After-lengthen).waits
-
-pub returns-in_err-reserve-clause-waits : goal.returns-in_err-reserve-clause-waits
-returns-in_err-reserve-clause-waits c = (kept_by_room (goal.at.returns-in_err-reserve-clause-waits c).After-reserve).waits
-
-pub returns-clause-backs : goal.returns-clause-backs
-returns-clause-backs c = (kept_by_hold (goal.at.returns-clause-backs c).After-hold).backs
-
-pub returns-in_err-lengthen-clause-backs : goal.returns-in_err-lengthen-clause-backs
-returns-in_err-lengthen-clause-backs c = (kept_by_links (goal.at.returns-in_err-lengthen-clause-backs c).After-lengthen).backs
-
-pub returns-in_err-reserve-clause-backs : goal.returns-in_err-reserve-clause-backs
-returns-in_err-reserve-clause-backs c = (kept_by_room (goal.at.returns-in_err-reserve-clause-backs c).After-reserve).backs
-
-pub returns-clause-lean : goal.returns-clause-lean
-returns-clause-lean c = (kept_by_hold (goal.at.returns-clause-lean c).After-hold).lean
-
-pub returns-in_err-lengthen-clause-lean : goal.returns-in_err-lengthen-clause-lean
-returns-in_err-lengthen-clause-lean c = (kept_by_links (goal.at.returns-in_err-lengthen-clause-lean c).After-lengthen).lean
-
-pub returns-in_err-reserve-clause-lean : goal.returns-in_err-reserve-clause-lean
-returns-in_err-reserve-clause-lean c = (kept_by_room (goal.at.returns-in_err-reserve-clause-lean c).After-reserve).lean
+pub returns-in_err-reserve-clause-keeps : goal.returns-in_err-reserve-clause-keeps
+returns-in_err-reserve-clause-keeps c = kept_by_room (goal.at.returns-in_err-reserve-clause-keeps c).After-reserve

@@ -1,7 +1,8 @@
 use Rattle.std.proofs.Common.{refl, arith}
 use Rattle.slab.specs.Slab.{get}
+use Rattle.ifmap_graph.specs.Back.{KeepsShelves}
 use Rattle.ifmap_graph.proofs.KeyHolds.{keys_before, keys_stay}
-use Rattle.ifmap_graph.proofs.Kept.{KeepsShelves, shelves_kept}
+use Rattle.ifmap_graph.proofs.Kept.{shelves_kept}
 use Rattle.ifmap_graph.proofs.Settled.{inside_of}
 use Rattle.ifmap_graph.proofs.Own.{inside_released, live_key, own_released}
 use Rattle.ifmap_graph.proofs.graph.Graph.release.Goals as goal
@@ -46,14 +47,5 @@ returns-clause-stays c =
     (keys_stay c.self.inside.names c.release.new.self c.args.number (live_key c.self.inside.names c.args.number q.0 q.2)
     c.release.ensures.kept c.release.ensures.last c.release.ensures.counted c.release.ensures.others)
 
-pub returns-clause-still : goal.returns-clause-still
-returns-clause-still c = (shelves_stay (goal.at.returns-clause-still c).After-release).still
-
-pub returns-clause-waits : goal.returns-clause-waits
-returns-clause-waits c = (shelves_stay (goal.at.returns-clause-waits c).After-release).waits
-
-pub returns-clause-backs : goal.returns-clause-backs
-returns-clause-backs c = (shelves_stay (goal.at.returns-clause-backs c).After-release).backs
-
-pub returns-clause-lean : goal.returns-clause-lean
-returns-clause-lean c = (shelves_stay (goal.at.returns-clause-lean c).After-release).lean
+pub returns-clause-keeps : goal.returns-clause-keeps
+returns-clause-keeps c = shelves_stay (goal.at.returns-clause-keeps c).After-release

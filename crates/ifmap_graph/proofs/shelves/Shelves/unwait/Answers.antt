@@ -26,14 +26,16 @@ returns c =
     c.index-at.result.now c.index-at.ensures (λ s. record s { waits = s.waits - 1 }) c.unwait_at.ensures.slots
     in let tie = ap is_eq (tied_itself items_total c.args.item.now)
     in record {
-      shelved = is_shelved w;
+      keeps = record {
+        shelved = is_shelved w;
+        now = side_stays w list_now refl;
+        next = side_stays w list_next refl;
+        ends = ends_stay w refl;
+        places = refl;
+      };
       left = c.unwait_at.ensures.left w.was w.had ∙ sym (waits_has w c.args.item.now tie);
       waits = waits_one_less (waits_at (get w.slots) w.es) (waits_at (get w.new) w.es) w.item w.was.waits
           w.later.waits (waits_had w) (waits_has w)
           (waits_others w) (subst (λ (n : ℕ). 0 < n) (waits_had w c.args.item.now tie) c.requires.waited) refl;
       bare = bare_stays w refl;
-      now = side_stays w list_now refl;
-      next = side_stays w list_next refl;
-      ends = ends_stay w refl;
-      places = refl;
     }

@@ -24,14 +24,16 @@ returns c =
     let w : Write = write_of c.args.self.now.slots c.wait_at.new.slots c.args.self.now.places.entries c.requires.shelved c.args.item.now
     c.index-at.result.now c.index-at.ensures (λ s. record s { waits = s.waits + 1 }) c.wait_at.ensures
     in record {
-      shelved = is_shelved w;
+      keeps = record {
+        shelved = is_shelved w;
+        now = side_stays w list_now refl;
+        next = side_stays w list_next refl;
+        ends = ends_stay w refl;
+        places = refl;
+      };
       waits = waits_one_more (waits_at (get w.slots) w.es) (waits_at (get w.new) w.es) w.item w.was.waits
           w.later.waits (waits_had w) (waits_has w)
           (waits_others w) refl;
       drafts = drafts_from w refl;
       kept = drafts_to w refl;
-      now = side_stays w list_now refl;
-      next = side_stays w list_next refl;
-      ends = ends_stay w refl;
-      places = refl;
     }
