@@ -79,7 +79,7 @@ fn place_missing(
     alloc: Global,
     item: &Item,
 ) -> Result<bool, NoMemory>
-    requires can { CanPlace (graph_fields names.old shelves.old links.old.items) item.now }
+    requires { CanPlace (graph_fields names.old shelves.old links.old.items) item.now }
     ensures grown { AreGrown (graph_fields names.old shelves.old links.old.items)
         (graph_fields names.new shelves.new links.new.items) }
     ensures brought { IfOk result

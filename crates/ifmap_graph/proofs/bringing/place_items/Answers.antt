@@ -14,8 +14,8 @@ loop-change-init c =
     begins_placing (items_changed c.args.changes.now)
     (graph_fields c.args.names.now c.args.shelves.now c.args.links.now.items) c.requires.inside c.args.fresh.now.items c.requires.none
 
-pub place_missing-requires-clause-can : goal.place_missing-requires-clause-can
-place_missing-requires-clause-can c = record {
+pub place_missing-requires : goal.place_missing-requires
+place_missing-requires c = record {
   inside = c.loop-change.invariant.grown.inside;
   canon = subst (λ (x : ItemChange). IsCanonItem x.item) (sym c.change-item.is)
       (all_at (λ (x : ItemChange). IsCanonItem x.item) c.args.changes.now c.loop-change.change-index c.change-item.result
