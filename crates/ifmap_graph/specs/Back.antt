@@ -61,7 +61,8 @@ KeepsOtherBacks items old new =
     (u : Undo) (rows : List Attachment) (links : ℕ → List LinkSeen) → AreAwaited (items ++ items_changed u.plan.changes) old
     → IsUndoTo u rows links old → IsUndoTo u rows links new
 
--- shelves stay with what is stored and drafted on them and waited for, and so do ways back
+-- shelves stay with what is stored and drafted on them and waited for, and so do ways back; where nothing is out or left behind, it
+-- stays so
 pub record KeepsShelves (old new : GraphInside) : Type 0 where
   pub shelves : new.shelves ≡ old.shelves
   pub places : new.places ≡ old.places

@@ -22,7 +22,7 @@ use Rattle.ifmap_graph.specs.Waits.{waits_on}
 abbrev pub flagged_items : List Item → List Bool → List Item
 flagged_items [] flags = []
 flagged_items (x ∷ xs) [] = []
-flagged_items (x ∷ xs) (m ∷ ms) = if m then x ∷ flagged_items xs ms else flagged_items xs ms
+flagged_items (x ∷ xs) (f ∷ fs) = if f then x ∷ flagged_items xs fs else flagged_items xs fs
 
 -- how often items name an identifier
 abbrev pub uses_by : List Item → Identifier → ℕ

@@ -58,7 +58,7 @@ pub record HaveDraftsWithin (items : List Item) (s : Shelves) : Type 0 where
   pub there : AllByRecursion (λ x. IsSome (slot_of_item s x)) items
   pub within : DraftsWithin items s
 
--- all drafts were dropped: what is to be stored is what was and is stored
+-- all drafts were dropped: what is to be stored is what was and is stored, and shelves stay in place and in order
 pub record DropDrafts (old new : Shelves) : Type 0 where
   pub now : rows_on_side list_now new ≡ rows_on_side list_now old
   pub next : rows_on_side list_next new ≡ rows_on_side list_now old

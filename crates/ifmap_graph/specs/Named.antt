@@ -46,7 +46,8 @@ AreIdentifiers names = (v : ℕ) (a : Identifier) → key_at names v ≡ Some a 
 abbrev pub AreHeld : {X : Type 0} → Holdings Identifier → List (Item × X) → Type 0
 AreHeld names entries = (a : Identifier) → (own : ℕ) × IsHeld identifier_order names a (uses_in entries a + own)
 
--- an item's identifiers have these numbers, and each is held once more as often as the item names it
+-- an item's identifiers have these numbers, and each is held once more as often as the item names it; other numbers stay, and it stays
+-- a pool of identifiers with its limit
 pub record HoldsEnds (old new : Holdings Identifier) (item : Item) (numbers : ItemEnds) : Type 0 where
   pub numbered : AreEnds new item numbers
   pub held : (other : Identifier) (count : ℕ) → IsHeld identifier_order old other count
@@ -56,7 +57,8 @@ pub record HoldsEnds (old new : Holdings Identifier) (item : Item) (numbers : It
   pub limit : new.limit ≡ old.limit
   pub whole : IsPool identifier_order new
 
--- what these numbers name is held once less as often as their item names it
+-- what these numbers name is held once less as often as their item names it; no number comes, no room goes, and it stays a pool of
+-- identifiers with its limit
 pub record LetsEndsGo (old new : Holdings Identifier) (numbers : ItemEnds) : Type 0 where
   pub held : (item : Item) (other : Identifier) (count : ℕ) → AreEnds old item numbers → IsHeld identifier_order old other count
       → IsHeld identifier_order new other (count - uses_of item other)

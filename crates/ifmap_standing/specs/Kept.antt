@@ -1,4 +1,4 @@
--- What subscriptions keep from one state of a list of them to another.
+-- What subscriptions keep from one state of a list of them to another, and which can be told of a change.
 use Rattle.std.specs.Prelude.{◌≡◌, ℕ, Bool, true, false, List, length, Some, IsSome, slice_get}
 use Rattle.ifmap_delta.specs.declared.subscriptions.Subscription.{Subscription}
 use Rattle.ifmap_delta.specs.SameSearches.{HasSameSearch}
@@ -26,7 +26,7 @@ pub record KeepsSame (old new : Subscription) : Type 0 where
 
 -- P holds of each subscription that is kept: whose flag is down
 abbrev pub AllKept : (Standing → Type 0) → List Bool → List Standing → Type 0
-AllKept P gone standing = (i : ℕ) (x : Standing) → slice_get standing i ≡ Some x → slice_get gone i ≡ Some false → P x
+AllKept P flags standing = (i : ℕ) (x : Standing) → slice_get standing i ≡ Some x → slice_get flags i ≡ Some false → P x
 
 -- there is a flag for each subscription, and those that are not skipped are up to date
 pub record CanBeTold (g : ViewSeen) (skipped : List Bool) (standing : List Standing) : Type 0 where

@@ -16,14 +16,14 @@ steady : (g : given.Over) (c : After-begin_at g) (standing : List Standing) → 
     → IsHolding c.hold.new.self standing c.in_ok-number.number c.args.wanted.now.search.now.start
 steady g c standing was =
     let h = c.in_ok-number.ensures in
-    held_steady c.args.graph.now c.hold.new.self standing c.in_ok-number.number c.args.wanted.now.search.now.start was h.shelves h.still
-    h.kept h.own h.named
+    held_steady c.args.graph.now c.hold.new.self standing c.in_ok-number.number c.args.wanted.now.search.now.start was
+    h.keeps.shelves h.keeps.still h.kept h.own h.named
 
 -- nothing else changes in it
 alone : (g : given.Over) (c : After-begin_at g) → GraphHolds c.args.graph.now c.hold.new.self
 alone g c =
     let h = c.in_ok-number.ensures in
-    held_alone c.args.graph.now c.hold.new.self h.shelves h.links h.kept h.backs h.waits h.lean
+    held_alone c.args.graph.now c.hold.new.self h.keeps.shelves h.links h.kept h.keeps.backs h.keeps.waits h.keeps.lean
 
 -- the steps, whether there is memory or not
 spent : (g : given.Over) (c : After-begin_at g)
@@ -36,7 +36,7 @@ pub returns-in_err-number-clause-err : goal.returns-in_err-number-clause-err
 returns-in_err-number-clause-err g c =
     let h = c.in_err-number.ensures in
     on_err c.from_residual.result ((standing : List Standing) → IsSteady c.args.graph.now standing → IsSteady c.hold.new.self standing)
-    (λ standing was. unheld_steady c.args.graph.now c.hold.new.self standing was h.shelves h.still h.kept h.err)
+    (λ standing was. unheld_steady c.args.graph.now c.hold.new.self standing was h.keeps.shelves h.keeps.still h.kept h.err)
 
 pub release_unused-requires : goal.release_unused-requires
 release_unused-requires g c =
