@@ -1,0 +1,1 @@
+"""What `tests/run` is made of: how cases are read, put to a program, and compared."""
