@@ -4,6 +4,8 @@
 
 mod escapes;
 mod identifiers;
+mod replies;
+mod requests;
 
 use std::alloc::{AllocError as NoMemory, Global};
 use std::io;
@@ -26,6 +28,10 @@ fn answer_of(alloc: Global, line: &str) -> Result<String, NoMemory> {
     let (layer, asked) = line.split_once(' ').unwrap_or((line, ""));
     match layer {
         "identifier" => identifiers::answer_of(alloc, asked),
+        "request" => requests::answer_of(alloc, asked),
+        "request-length" => requests::length_of(alloc, asked),
+        "reply" => replies::answer_of(alloc, asked),
+        "reply-length" => replies::length_of(alloc, asked),
         _ => String::from_str(alloc, "no such layer"),
     }
 }

@@ -1,0 +1,65 @@
+//! Rows of replies: a body, and the reply that it means as it is sent, or that it means none.
+//! A body that stands as it is sent is answered `the same`.
+use crate::escapes::{bytes_of, text_of};
+use ifmap_elem::{Copied, Many, canonical};
+use ifmap_replies::{Reply, ReplyError, element_of, read_reply, reply_of, write_reply};
+use std::alloc::{AllocError as NoMemory, Global};
+
+/// The answer to a body.
+pub fn answer_of(alloc: Global, asked: &str) -> Result<String, NoMemory> {
+    let Some(body) = bytes_of(alloc, asked)? else {
+        return String::from_str(alloc, "no bytes");
+    };
+    match read_reply(alloc, body.as_slice()) {
+        Ok(reply) => show_reply(alloc, body.as_slice(), &reply),
+        Err(ReplyError::NotAReply) => String::from_str(alloc, "no reply"),
+        Err(ReplyError::NoMemory) => Err(NoMemory),
+    }
+}
+
+// The reply as it is sent, where what is sent is written again alike, and so is the element of a copy.
+fn show_reply(alloc: Global, body: &[u8], reply: &Reply) -> Result<String, NoMemory> {
+    let written = write_reply(alloc, reply)?;
+    if !is(&written_again(alloc, written.as_slice()), &written) {
+        return String::from_str(alloc, "what is written is read as another");
+    }
+    if !is(&written_by_elements(alloc, reply), &written) {
+        return String::from_str(alloc, "the element of a copy differs");
+    }
+    if written.as_slice() == body {
+        return String::from_str(alloc, "the same");
+    }
+    text_of(alloc, written.as_slice())
+}
+
+fn is(bytes: &Option<Many<u8>>, wanted: &Many<u8>) -> bool {
+    match bytes {
+        Some(bytes) => bytes.as_slice() == wanted.as_slice(),
+        None => false,
+    }
+}
+
+// The bytes that are written for the reply that a body means.
+fn written_again(alloc: Global, body: &[u8]) -> Option<Many<u8>> {
+    let reply = read_reply(alloc, body).ok()?;
+    write_reply(alloc, &reply).ok()
+}
+
+// The bytes of the element of a copy of a reply, after that element was read once more.
+fn written_by_elements(alloc: Global, reply: &Reply) -> Option<Many<u8>> {
+    let element = element_of(alloc, &reply.copy(alloc).ok()?).ok()?;
+    let again = reply_of(alloc, &element).ok()?;
+    canonical(alloc, &element_of(alloc, &again).ok()?).ok()
+}
+
+/// How many bytes are written for the reply that a body means.
+pub fn length_of(alloc: Global, asked: &str) -> Result<String, NoMemory> {
+    let Some(body) = bytes_of(alloc, asked)? else {
+        return String::from_str(alloc, "no bytes");
+    };
+    let Some(written) = written_again(alloc, body.as_slice()) else {
+        return String::from_str(alloc, "no reply");
+    };
+    let length = written.as_slice().len();
+    format!(in alloc; "{length}")
+}

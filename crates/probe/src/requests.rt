@@ -1,0 +1,57 @@
+//! Rows of requests: a body, and the request that it means as a client writes it, or why it means none.
+//! A body that stands as a client writes it is answered `the same`.
+use crate::escapes::{bytes_of, text_of};
+use ifmap_elem::Copied;
+use ifmap_requests::{Refusal, Request, read_request};
+use ifmap_writing::write_request;
+use std::alloc::{AllocError as NoMemory, Global};
+
+/// The answer to a body.
+pub fn answer_of(alloc: Global, asked: &str) -> Result<String, NoMemory> {
+    let Some(body) = bytes_of(alloc, asked)? else {
+        return String::from_str(alloc, "no bytes");
+    };
+    match read_request(alloc, body.as_slice()) {
+        Ok(request) => show_request(alloc, body.as_slice(), &request),
+        Err(Refusal::Unreadable) => String::from_str(alloc, "unreadable"),
+        Err(Refusal::Named(code)) => String::from_str(alloc, code.name()),
+        Err(Refusal::NoMemory) => Err(NoMemory),
+    }
+}
+
+// The request as it is written, where its copy and what is read back are the same request.
+fn show_request(alloc: Global, body: &[u8], request: &Request) -> Result<String, NoMemory> {
+    let written = write_request(alloc, request)?;
+    if !is_meant(alloc, &request.copy(alloc)?, request)? {
+        return String::from_str(alloc, "the copy differs");
+    }
+    let Ok(again) = read_request(alloc, written.as_slice()) else {
+        return String::from_str(alloc, "what is written is not read");
+    };
+    if !is_meant(alloc, &again, request)? {
+        return String::from_str(alloc, "what is written is read as another");
+    }
+    if written.as_slice() == body {
+        return String::from_str(alloc, "the same");
+    }
+    text_of(alloc, written.as_slice())
+}
+
+// Whether the words of two requests, which tell requests apart, are the same.
+fn is_meant(alloc: Global, one: &Request, other: &Request) -> Result<bool, NoMemory> {
+    let one = format!(in alloc; "{one:?}")?;
+    let other = format!(in alloc; "{other:?}")?;
+    Ok(one == other)
+}
+
+/// How many bytes are written of the request that a body means.
+pub fn length_of(alloc: Global, asked: &str) -> Result<String, NoMemory> {
+    let Some(body) = bytes_of(alloc, asked)? else {
+        return String::from_str(alloc, "no bytes");
+    };
+    let Ok(request) = read_request(alloc, body.as_slice()) else {
+        return String::from_str(alloc, "no request");
+    };
+    let length = write_request(alloc, &request)?.as_slice().len();
+    format!(in alloc; "{length}")
+}
