@@ -20,10 +20,10 @@ pub fn answer_of(alloc: Global, asked: &str) -> Result<String, NoMemory> {
 // The reply as it is sent, where what is sent is written again alike, and so is the element of a copy.
 fn show_reply(alloc: Global, body: &[u8], reply: &Reply) -> Result<String, NoMemory> {
     let written = write_reply(alloc, reply)?;
-    if !is(&written_again(alloc, written.as_slice()), &written) {
+    if !is(&written_again(alloc, written.as_slice())?, &written) {
         return String::from_str(alloc, "what is written is read as another");
     }
-    if !is(&written_by_elements(alloc, reply), &written) {
+    if !is(&written_by_elements(alloc, reply)?, &written) {
         return String::from_str(alloc, "the element of a copy differs");
     }
     if written.as_slice() == body {
@@ -39,17 +39,23 @@ fn is(bytes: &Option<Many<u8>>, wanted: &Many<u8>) -> bool {
     }
 }
 
-// The bytes that are written for the reply that a body means.
-fn written_again(alloc: Global, body: &[u8]) -> Option<Many<u8>> {
-    let reply = read_reply(alloc, body).ok()?;
-    write_reply(alloc, &reply).ok()
+// The bytes that are written for the reply that a body means, where it means one.
+fn written_again(alloc: Global, body: &[u8]) -> Result<Option<Many<u8>>, NoMemory> {
+    match read_reply(alloc, body) {
+        Ok(reply) => Ok(Some(write_reply(alloc, &reply)?)),
+        Err(ReplyError::NotAReply) => Ok(None),
+        Err(ReplyError::NoMemory) => Err(NoMemory),
+    }
 }
 
 // The bytes of the element of a copy of a reply, after that element was read once more.
-fn written_by_elements(alloc: Global, reply: &Reply) -> Option<Many<u8>> {
-    let element = element_of(alloc, &reply.copy(alloc).ok()?).ok()?;
-    let again = reply_of(alloc, &element).ok()?;
-    canonical(alloc, &element_of(alloc, &again).ok()?).ok()
+fn written_by_elements(alloc: Global, reply: &Reply) -> Result<Option<Many<u8>>, NoMemory> {
+    let element = element_of(alloc, &reply.copy(alloc)?)?;
+    match reply_of(alloc, &element) {
+        Ok(again) => Ok(Some(canonical(alloc, &element_of(alloc, &again)?)?)),
+        Err(ReplyError::NotAReply) => Ok(None),
+        Err(ReplyError::NoMemory) => Err(NoMemory),
+    }
 }
 
 /// How many bytes are written for the reply that a body means.
@@ -57,7 +63,7 @@ pub fn length_of(alloc: Global, asked: &str) -> Result<String, NoMemory> {
     let Some(body) = bytes_of(alloc, asked)? else {
         return String::from_str(alloc, "no bytes");
     };
-    let Some(written) = written_again(alloc, body.as_slice()) else {
+    let Some(written) = written_again(alloc, body.as_slice())? else {
         return String::from_str(alloc, "no reply");
     };
     let length = written.as_slice().len();

@@ -22,13 +22,13 @@ pub fn answer_of(alloc: Global, asked: &str) -> Result<String, NoMemory> {
 // The request as it is written, where its copy and what is read back are the same request.
 fn show_request(alloc: Global, body: &[u8], request: &Request) -> Result<String, NoMemory> {
     let written = write_request(alloc, request)?;
-    if !is_meant(alloc, &request.copy(alloc)?, request)? {
+    if !are_same(alloc, &request.copy(alloc)?, request)? {
         return String::from_str(alloc, "the copy differs");
     }
-    let Ok(again) = read_request(alloc, written.as_slice()) else {
+    let Some(again) = request_in(alloc, written.as_slice())? else {
         return String::from_str(alloc, "what is written is not read");
     };
-    if !is_meant(alloc, &again, request)? {
+    if !are_same(alloc, &again, request)? {
         return String::from_str(alloc, "what is written is read as another");
     }
     if written.as_slice() == body {
@@ -37,11 +37,22 @@ fn show_request(alloc: Global, body: &[u8], request: &Request) -> Result<String,
     text_of(alloc, written.as_slice())
 }
 
-// Whether the words of two requests, which tell requests apart, are the same.
-fn is_meant(alloc: Global, one: &Request, other: &Request) -> Result<bool, NoMemory> {
-    let one = format!(in alloc; "{one:?}")?;
-    let other = format!(in alloc; "{other:?}")?;
-    Ok(one == other)
+// The request that a body means, where it means one.
+fn request_in(alloc: Global, body: &[u8]) -> Result<Option<Request>, NoMemory> {
+    match read_request(alloc, body) {
+        Ok(request) => Ok(Some(request)),
+        Err(Refusal::NoMemory) => Err(NoMemory),
+        Err(_) => Ok(None),
+    }
+}
+
+// Whether two requests are the same, by the words that tell requests apart and by what is written of them.
+fn are_same(alloc: Global, one: &Request, other: &Request) -> Result<bool, NoMemory> {
+    let words = format!(in alloc; "{one:?}")?;
+    let bytes = write_request(alloc, one)?;
+    let other_words = format!(in alloc; "{other:?}")?;
+    let other_bytes = write_request(alloc, other)?;
+    Ok(words == other_words && bytes.as_slice() == other_bytes.as_slice())
 }
 
 /// How many bytes are written of the request that a body means.
@@ -49,7 +60,7 @@ pub fn length_of(alloc: Global, asked: &str) -> Result<String, NoMemory> {
     let Some(body) = bytes_of(alloc, asked)? else {
         return String::from_str(alloc, "no bytes");
     };
-    let Ok(request) = read_request(alloc, body.as_slice()) else {
+    let Some(request) = request_in(alloc, body.as_slice())? else {
         return String::from_str(alloc, "no request");
     };
     let length = write_request(alloc, &request)?.as_slice().len();
