@@ -3,7 +3,10 @@
 #![tactic(auto)]
 
 mod escapes;
+mod filter_pairs;
+mod filters;
 mod identifiers;
+mod meetings;
 
 use std::alloc::{AllocError as NoMemory, Global};
 use std::io;
@@ -26,6 +29,13 @@ fn answer_of(alloc: Global, line: &str) -> Result<String, NoMemory> {
     let (layer, asked) = line.split_once(' ').unwrap_or((line, ""));
     match layer {
         "identifier" => identifiers::answer_of(alloc, asked),
+        "filter" => filters::answer_of(alloc, asked),
+        "filter-among" => filters::answer_among(alloc, asked),
+        "filter-parts" => filters::parts_of(alloc, asked),
+        "filter-spaces" => filter_pairs::spaces_of(alloc, asked),
+        "filter-serves" => filter_pairs::service_of(alloc, asked),
+        "filter-copy" => filter_pairs::copy_of(alloc, asked),
+        "meets" => meetings::answer_of(alloc, asked),
         _ => String::from_str(alloc, "no such layer"),
     }
 }
