@@ -2,6 +2,7 @@
 //! what the layer answers. It is for the rows of tests alone: no program is linked with it.
 #![tactic(auto)]
 
+mod command_words;
 mod escapes;
 mod filter_pairs;
 mod filters;
@@ -36,6 +37,7 @@ fn answer_of(alloc: Global, line: &str) -> Result<String, NoMemory> {
         "filter-serves" => filter_pairs::service_of(alloc, asked),
         "filter-copy" => filter_pairs::copy_of(alloc, asked),
         "meets" => meetings::answer_of(alloc, asked),
+        "words" => command_words::answer_of(alloc, asked),
         _ => String::from_str(alloc, "no such layer"),
     }
 }
