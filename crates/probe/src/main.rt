@@ -2,12 +2,15 @@
 //! what the layer answers. It is for the rows of tests alone: no program is linked with it.
 #![tactic(auto)]
 
+mod client_lines;
+mod client_sets;
 mod command_words;
 mod escapes;
 mod filter_pairs;
 mod filters;
 mod identifiers;
 mod meetings;
+mod polls;
 
 use std::alloc::{AllocError as NoMemory, Global};
 use std::io;
@@ -38,6 +41,8 @@ fn answer_of(alloc: Global, line: &str) -> Result<String, NoMemory> {
         "filter-copy" => filter_pairs::copy_of(alloc, asked),
         "meets" => meetings::answer_of(alloc, asked),
         "words" => command_words::answer_of(alloc, asked),
+        "client-line" => client_lines::answer_of(alloc, asked),
+        "client-set" => client_sets::answer_of(alloc, asked),
         _ => String::from_str(alloc, "no such layer"),
     }
 }
