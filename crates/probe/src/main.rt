@@ -5,12 +5,15 @@
 mod client_lines;
 mod client_sets;
 mod command_words;
+mod copies;
 mod escapes;
 mod filter_pairs;
 mod filters;
 mod identifiers;
 mod meetings;
 mod polls;
+mod search_copies;
+mod sizes;
 
 use std::alloc::{AllocError as NoMemory, Global};
 use std::io;
@@ -43,6 +46,9 @@ fn answer_of(alloc: Global, line: &str) -> Result<String, NoMemory> {
         "words" => command_words::answer_of(alloc, asked),
         "client-line" => client_lines::answer_of(alloc, asked),
         "client-set" => client_sets::answer_of(alloc, asked),
+        "poll-size" => sizes::answer_of(alloc, asked),
+        "too-big" => sizes::refusal_of(alloc, asked),
+        "search-copy" => search_copies::answer_of(alloc, asked),
         _ => String::from_str(alloc, "no such layer"),
     }
 }
