@@ -2,10 +2,20 @@
 //! what the layer answers. It is for the rows of tests alone: no program is linked with it.
 #![tactic(auto)]
 
+mod client_lines;
+mod client_sets;
+mod command_words;
+mod copies;
 mod escapes;
+mod filter_pairs;
+mod filters;
 mod identifiers;
+mod meetings;
+mod polls;
 mod replies;
 mod requests;
+mod search_copies;
+mod sizes;
 
 use std::alloc::{AllocError as NoMemory, Global};
 use std::io;
@@ -32,6 +42,19 @@ fn answer_of(alloc: Global, line: &str) -> Result<String, NoMemory> {
         "request-length" => requests::length_of(alloc, asked),
         "reply" => replies::answer_of(alloc, asked),
         "reply-length" => replies::length_of(alloc, asked),
+        "filter" => filters::answer_of(alloc, asked),
+        "filter-among" => filters::answer_among(alloc, asked),
+        "filter-parts" => filters::parts_of(alloc, asked),
+        "filter-spaces" => filter_pairs::spaces_of(alloc, asked),
+        "filter-serves" => filter_pairs::service_of(alloc, asked),
+        "filter-copy" => filter_pairs::copy_of(alloc, asked),
+        "meets" => meetings::answer_of(alloc, asked),
+        "words" => command_words::answer_of(alloc, asked),
+        "client-line" => client_lines::answer_of(alloc, asked),
+        "client-set" => client_sets::answer_of(alloc, asked),
+        "poll-size" => sizes::answer_of(alloc, asked),
+        "too-big" => sizes::refusal_of(alloc, asked),
+        "search-copy" => search_copies::answer_of(alloc, asked),
         _ => String::from_str(alloc, "no such layer"),
     }
 }
