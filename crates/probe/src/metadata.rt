@@ -88,9 +88,14 @@ fn text_of_content(alloc: Global, element: &Element) -> Result<String, NoMemory>
 /// The answer to the name of a client and an element: the canonical bytes of what is stored where this
 /// client publishes it a billion seconds after 1970 began.
 pub fn stored_of(alloc: Global, asked: &str) -> Result<String, NoMemory> {
-    match stored_in(alloc, asked)? {
-        Some(stored) => text_of_stored(alloc, &stored),
-        None => no_metadata(alloc),
+    let Some(stored) = stored_in(alloc, asked)? else {
+        return no_metadata(alloc);
+    };
+    let (client, _) = asked.split_once(' ').unwrap_or((asked, ""));
+    if stored.publisher.text().as_str() == client {
+        text_of_stored(alloc, &stored)
+    } else {
+        String::from_str(alloc, "publisher differs")
     }
 }
 
