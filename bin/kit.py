@@ -40,7 +40,7 @@ def copy_of_crates(rt):
 
 
 def give_kept(rt, crates):
-    """Gives each crate the library, or the program, that `rt ci` proved of the same text, and returns the names of those that lack it."""
+    """Gives each crate what `rt ci` proved of the same text, a library or a program, and returns those that lack it, by name."""
     kept, lacking = rt.Kept(crates), set()
     for crate in crates:
         if any(below.name in lacking for below in crate.below()) or not kept.give(crate, False, kept.key(crate)):
