@@ -1,6 +1,7 @@
 """Scripts: what `mapd replay` is to write for a script, and `mapd` for other words.
 
-A file has cases, each begun by a line `== what it shows`, and each a run of its own. A line
+A file has cases, each begun by a line `== what it shows`, and each a run of its own. What stands above the first begins them all.
+A line
 
     @MOMENT CLIENT REQUEST
 
@@ -98,14 +99,15 @@ class Reader:
 
     def __init__(self, path):
         self.path, self.names, self.cases = path, names_for_all(), []
+        self.opening, self.moment = [], "1000000000"
         self.begin("", 0)
         for number, line in enumerate(path.read_text(encoding="utf-8").split("\n"), 1):
             self.take(number, line)
         self.end_case()
 
     def begin(self, title, number):
-        self.title, self.line, self.words, self.status, self.moment = title, number, None, 0, "1000000000"
-        self.steps, self.asked, self.due = [], None, []
+        self.title, self.line, self.words, self.status = title, number, None, 0
+        self.steps, self.asked, self.due = list(self.opening), None, []
 
     def fault(self, number, told):
         return Unreadable(f"{name_of(self.path)}:{number}: {told}")
@@ -115,7 +117,7 @@ class Reader:
             self.due.append(line[4:])
         elif line.startswith("|") and self.asked and not self.due:
             self.asked = self.asked[0], f"{self.asked[1]}\n{line[1:]}"
-        elif line.startswith(("@", "raw ", "words ")) and self.title:
+        elif line.startswith(("@", "raw ", "words ")):
             self.end_step()
             self.asked = number, line
         elif line.startswith("status "):
@@ -157,9 +159,12 @@ class Reader:
 
     def end_case(self):
         self.end_step()
-        if self.title:
+        if not self.title:
+            self.opening, self.opened = self.steps, self.moment
+        else:
             name = f"{name_of(self.path)}:{self.line} {self.title}"
             self.cases.append(Case(name, self.words or ["replay"], self.steps, self.status))
+        self.moment = self.opened
 
 
 def frame_at(output, at):
