@@ -28,8 +28,8 @@ def name_of(path):
     return str(path.relative_to(TESTS))
 
 
-# A name in braces, or a text or a name so many times: {first}, {x*4096}. {update#0..999} is the text or the name for each of these
-# numbers, which stands for each # in it.
+# A name in braces, or a text or a name so many times: {first}, {x*4096}. {update#0..999} is the text or the name for each of
+# these numbers, which stands for each # in it.
 NAMED = re.compile(r"\{([^{}*]+?)(?:\*([0-9]+)|#([0-9]+)\.\.([0-9]+))?\}")
 ESCAPED = re.compile(r"\\(?:x([0-9a-f]{2})|([nrt\\]))")
 

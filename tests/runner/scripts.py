@@ -1,23 +1,23 @@
 """Scripts: what `mapd replay` is to write for a script, and `mapd` for other words.
 
-A file has cases, each begun by a line `== what it shows`, and each a run of its own. What stands above the first begins them all.
-A line
+A file has cases, each begun by a line `== what it shows`, and each a run of its own. What stands above the first begins them
+all. A line
 
     @MOMENT CLIENT REQUEST
 
 is a request of a client, which goes into the usual envelope: its prefixes are n1 for SOAP, n2 for IF-MAP, n3 for its metadata.
 `@@` in place of `@` puts a body as it stands. Without a moment it is that of the line before, and 1000000000 at the beginning.
-CLIENT/RANDOM has the last digits of the random word, which else is 1. A line that begins with `|` goes on with the body on a new
-line. `raw TEXT` puts bytes into the script that are no frame of this form. Below each, four spaces further in, is what is due:
+CLIENT/RANDOM has the last digits of the random word, which else is 1. A line that begins with `|` goes on with the body on a
+new line. `raw TEXT` puts bytes into the script that are no frame of this form. Below each, four spaces further in, is what is due:
 
-    RESULT              the element of a result; where it has other namespaces than the metadata's, `n3=SPACE n4=SPACE` before it
+    RESULT              the element of a result; `n3=SPACE n4=SPACE` before it where it has other namespaces than the metadata's
     !CODE               the code of a refusal, which is its note too
     held, unreadable    these words
     !OFFSET             no frame begins there, and the status is 3
 
-`words WORDS` gives mapd other words than `replay`, and what is due are the lines that it writes; `status NUMBER` is the status that
-is due where it is neither 0 nor that of an offset. `let NAME = TEXT` and `{NAME}` are as in rows; the file `names` is for all. A line
-that begins with `#` is for the reader."""
+`words WORDS` gives mapd other words than `replay`, and what is due are the lines that it writes. `status NUMBER` is the status
+that is due where it is neither 0 nor that of an offset. `let NAME = TEXT` and `{NAME}` are as in rows; the file `names` is for
+all. A line that begins with `#` is for the reader."""
 import re
 import subprocess
 from typing import NamedTuple
@@ -106,7 +106,7 @@ class Reader:
         self.end_case()
 
     def begin(self, title, number):
-        self.title, self.line, self.words, self.status = title, number, None, 0
+        self.title, self.line, self.words, self.status = title, number, ["replay"], 0
         self.steps, self.asked, self.due = list(self.opening), None, []
 
     def fault(self, number, told):
@@ -117,7 +117,7 @@ class Reader:
             self.due.append(line[4:])
         elif line.startswith("|") and self.asked and not self.due:
             self.asked = self.asked[0], f"{self.asked[1]}\n{line[1:]}"
-        elif line.startswith(("@", "raw ", "words ")):
+        elif line.startswith(("@", "raw ", "words ")) or line == "words":
             self.end_step()
             self.asked = number, line
         elif line.startswith("status "):
@@ -137,8 +137,8 @@ class Reader:
 
     def step_of(self, number, text, due):
         shown, text = text, self.names.spell(text)
-        if text.startswith("words "):
-            self.words = text[6:].split(" ")
+        if text.startswith("words"):
+            self.words = text.split(" ")[1:]
             return Step(number, shown, b"", b"".join(it + b"\n" for it in due))
         if due and re.fullmatch(rb"![0-9]+", due[-1]):
             self.status = 3
@@ -163,7 +163,7 @@ class Reader:
             self.opening, self.opened = self.steps, self.moment
         else:
             name = f"{name_of(self.path)}:{self.line} {self.title}"
-            self.cases.append(Case(name, self.words or ["replay"], self.steps, self.status))
+            self.cases.append(Case(name, self.words, self.steps, self.status))
         self.moment = self.opened
 
 
@@ -187,7 +187,7 @@ def output_difference(case, output):
             got = max(frame_at(output, at), output[at : at + len(step.due)], key=len)
             return f"    line {step.number}: {cut(step.shown)}\n{difference(shown_text(step.due), shown_text(got))}"
         at += len(step.due)
-    return difference("", shown_text(output[at:]))
+    return f"    more is written: {cut(shown_text(output[at:]))}" if at < len(output) else None
 
 
 def result_of(case, mapd):
