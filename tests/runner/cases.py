@@ -28,8 +28,9 @@ def name_of(path):
     return str(path.relative_to(TESTS))
 
 
-# A name in braces, or a text or a name so many times: {first}, {x*4096}.
-NAMED = re.compile(r"\{([^{}*]+)(?:\*([0-9]+))?\}")
+# A name in braces, or a text or a name so many times: {first}, {x*4096}. {update#0..999} is the text or the name for each of
+# these numbers, which stands for each # in it.
+NAMED = re.compile(r"\{([^{}*]+?)(?:\*([0-9]+)|#([0-9]+)\.\.([0-9]+))?\}")
 ESCAPED = re.compile(r"\\(?:x([0-9a-f]{2})|([nrt\\]))")
 
 
@@ -50,12 +51,13 @@ class Names:
         """The text with the meanings of its names. A brace that is meant is written \\x7b or \\x7d."""
 
         def meaning(found):
-            word, count = found[1], found[2]
-            if word in self.meanings:
-                return self.meanings[word] * int(count or 1)
-            if count is None:
+            word, count, start, end = found.groups()
+            if word not in self.meanings and count is None and start is None:
                 raise Unreadable(f"there is no name {word}")
-            return word * int(count)
+            text = self.meanings.get(word, word)
+            if start is not None:
+                return "".join(text.replace("#", str(number)) for number in range(int(start), int(end) + 1))
+            return text * int(count or 1)
 
         return NAMED.sub(meaning, text)
 

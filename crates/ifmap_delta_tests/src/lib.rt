@@ -1,11 +1,9 @@
-//! Tests of subscriptions on a real graph: worked examples, and small graphs with random publishes, each
-//! change beside what searches find before and after it.
+//! Tests of subscriptions on a real graph: small graphs with random publishes, each change beside what
+//! searches find before and after it. Worked examples are in `tests/scripts`.
 #![tactic(auto)]
 
 #[cfg(test)]
 mod comparing;
-#[cfg(test)]
-mod examples;
 #[cfg(test)]
 mod faults;
 #[cfg(test)]

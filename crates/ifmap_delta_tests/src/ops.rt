@@ -23,8 +23,6 @@ pub(crate) enum Deed {
     Take,
     // takes all
     TakeAll,
-    // notifies one
-    Tell,
 }
 
 // An operation: what it does, on which place, and the name and the text of its element. An address is by
@@ -101,7 +99,6 @@ fn push_op(alloc: Global, out: &mut String, op: &Op) -> Result<(), NoMemory> {
             "multiValue",
         ),
         Deed::PutSingle => push_bringing(alloc, out, op, ("<update>", "</update>"), "singleValue"),
-        Deed::Tell => push_bringing(alloc, out, op, ("<notify>", "</notify>"), "multiValue"),
         Deed::TakeAll => push_delete(alloc, out, op.1, "<delete>"),
         Deed::Take => {
             let start = format!(in alloc; "<delete filter='u:{}'>", op.2)?;

@@ -1,13 +1,11 @@
 //! Changes of a graph with a subscription, and their ways back.
 ghost use Rattle.std.specs.Prelude.{◌≡◌, ◌<◌, Some, IfOk, OnOk};
-ghost use Rattle.std.specs.List.{AllByRecursion};
 ghost use Rattle.ifmap_delta.specs.Changes.{IsSubscribed, ShowsAfter, WouldKeep};
-ghost use Rattle.ifmap_delta.specs.SeenViews.{HasMarks, IsUpToDate, ViewSeen};
+ghost use Rattle.ifmap_delta.specs.SeenViews.{IsUpToDate, ViewSeen};
 ghost use Rattle.ifmap_delta_tests.specs.Worlds.{IsFitting, IsQuiet, IsWorldSeen, IsStepOut, KeepsRows};
 ghost use Rattle.ifmap_changes.specs.Between.{seen_now};
 ghost use Rattle.ifmap_changes.specs.Changes.{seen_next};
 ghost use Rattle.ifmap_ident.specs.Canon.{IsIdentifier};
-ghost use Rattle.ifmap_ident.specs.Items.{IsCanonItem};
 ghost use Rattle.ifmap_graph.specs.ifmap_pool.Holdings.{key_at};
 ghost use Rattle.ifmap_region.specs.Ways.{HasRoom};
 
@@ -15,14 +13,12 @@ use crate::comparing::{is_as_in, take_snapshot, tells_difference};
 use crate::faults::{Fault, fault_unless};
 use crate::ops::Op;
 use crate::worlds::{begin_change, graph_with, plan_of};
-use ifmap_delta::{
-    Moved, SubUndo, Subscribed, Subscription, change, locate_plan, notes, subscribe,
-};
-use ifmap_elem::{Copied, Many};
+use ifmap_delta::{Moved, SubUndo, Subscribed, Subscription, change, locate_plan, subscribe};
+use ifmap_elem::Copied;
 use ifmap_fresh_tests::plain_search::find;
 use ifmap_graph::{Draft, Graph, Ready};
 use ifmap_plans::Plan;
-use ifmap_search::{Entry, Found, Search, SearchError};
+use ifmap_search::{Found, Search, SearchError};
 use ifmap_standing::laws::same_links_keep_subscriptions;
 use ifmap_steps::Steps;
 use ifmap_view::View;
@@ -277,22 +273,6 @@ pub(crate) fn make_step(graph: &mut Graph, subscription: &mut Subscription, step
     let undo = take_over(subscription, moved);
     graph.commit_kept(ready);
     undo
-}
-
-// Which notified elements of the plan a subscription is told that took the change over.
-pub(crate) fn notes_of(
-    alloc: Global,
-    graph: &Graph,
-    subscription: &Subscription,
-    plan: &Plan,
-) -> Result<Many<Entry>, NoMemory>
-    requires next { IsWorldSeen (seen_next graph.now) }
-    requires marks { HasMarks (seen_next graph.now) subscription.now }
-    requires canon { AllByRecursion (λ n. IsCanonItem n.item) plan.now.notes }
-{
-    let draft = Draft::of(graph);
-    let located = locate_plan(alloc, graph, &draft, plan)?;
-    notes(alloc, subscription, &draft, &located)
 }
 
 // A new subscription to the same search.

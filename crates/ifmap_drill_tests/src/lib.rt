@@ -1,5 +1,5 @@
-//! Tests of the drill, by its summaries.
+//! A drill whose write fails. What drills write is tested by `tests/scripts`.
 #![tactic(auto)]
 
 #[cfg(test)]
-mod sums;
+mod failing;

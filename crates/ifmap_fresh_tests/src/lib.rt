@@ -1,15 +1,5 @@
-//! Tests of searches, over a view of plain lists: worked examples, by hand.
+//! What tests of graphs and of what is found in them are made of. What searches find is tested by `tests/scripts`.
 #![tactic(auto)]
 
-pub mod checking;
-pub mod items;
-pub mod linking;
-pub mod lists;
-pub mod looking;
-#[cfg(test)]
-mod makers;
 pub mod places;
 pub mod plain_search;
-#[cfg(test)]
-mod searches;
-pub mod shelves;

@@ -1,6 +1,5 @@
 //! Addresses by their last bytes, and items of them.
 ghost use Rattle.std.specs.Prelude.{IfOk};
-ghost use Rattle.std.specs.List.{AllByRecursion};
 ghost use Rattle.ifmap_ident.specs.Canon.{IsIdentifier};
 ghost use Rattle.ifmap_ident.specs.Items.{IsCanonItem};
 
@@ -36,32 +35,5 @@ pub fn item_at(alloc: Global, place: Place) -> Result<Item, NoMemory>
         Place::Link(one, other) => {
             Item::pair(address_of(alloc, one), address_of(alloc, other)).ok_or(NoMemory)
         }
-    }
-}
-
-/// The addresses that end in a byte below this one.
-pub fn addresses(alloc: Global, count: u8) -> Result<Vec<Identifier>, NoMemory>
-    ensures { IfOk result (λ names. AllByRecursion IsIdentifier names.items) }
-{
-    let mut names = Vec::new(alloc);
-    for last in 0..count {
-        names.push(address_of(alloc, last))?;
-    }
-    Ok(names)
-}
-
-// The last byte of an address.
-fn last_of(id: &Identifier) -> u8 {
-    match id {
-        Identifier::MacAddress { value, .. } => value[5],
-        _ => 0,
-    }
-}
-
-/// The place of an item, as text: the last bytes of its addresses.
-pub fn place_of(alloc: Global, item: &Item) -> Result<String, NoMemory> {
-    match item {
-        Item::One(a) => format!(in alloc; "{}", last_of(a)),
-        Item::Pair(a, b) => format!(in alloc; "{}-{}", last_of(a), last_of(b)),
     }
 }

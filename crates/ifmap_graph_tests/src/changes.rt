@@ -16,10 +16,11 @@ use ifmap_publish_tests::publishes::{client_of, ops_in};
 use ifmap_requests::PublishOp;
 use std::alloc::{AllocError as NoMemory, Global};
 
-// Who publishes at which moment.
+// Who publishes, in the session of which serial, at which moment.
 #[derive(Clone, Copy)]
 pub(crate) struct By {
     pub(crate) client: usize,
+    pub(crate) serial: u64,
     pub(crate) time: usize,
 }
 
@@ -38,7 +39,7 @@ fn publish_as(
     };
     let author = Author {
         client,
-        serial: serial_of(by.client),
+        serial: by.serial,
         moment,
     };
     carried.publish(alloc, ops, &author, course)

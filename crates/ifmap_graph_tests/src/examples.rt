@@ -2,7 +2,7 @@
 use crate::carrying::{Carried, End};
 use crate::changes::{By, publish};
 use crate::comparing::shows;
-use crate::facts::Fact;
+use crate::facts::{Fact, serial_of};
 use crate::rules::Op;
 use ifmap_meta::Life;
 use std::alloc::Global;
@@ -19,6 +19,14 @@ fn fact(sort: usize, client: usize, text: usize, life: Life) -> Fact {
     }
 }
 
+// The serial of the session in which it is published.
+fn session_of(fact: Fact) -> u64 {
+    match fact.life {
+        Life::Session(serial) => serial,
+        Life::Forever => serial_of(fact.client),
+    }
+}
+
 fn publish_one(
     alloc: Global,
     carried: &mut Carried,
@@ -27,6 +35,7 @@ fn publish_one(
 ) -> Option<Vec<Fact>> {
     let by = By {
         client: fact.client,
+        serial: session_of(fact),
         time: fact.time,
     };
     publish(alloc, carried, before, &[Op::Update(fact)], by, End::Commit)
@@ -71,5 +80,12 @@ fn a_single_value_of_another_client_takes_the_place(rt: HostRuntime) {
 fn an_element_again_in_the_same_second_stands_once_with_its_new_lifetime(rt: HostRuntime) {
     let first = fact(1, 0, 0, Life::Session(1));
     let second = fact(1, 0, 0, Life::Forever);
+    assert!(rt; leaves_the_second(rt.alloc(), first, second));
+}
+
+#[test]
+fn an_element_again_in_the_same_second_stands_once_as_of_the_other_session(rt: HostRuntime) {
+    let first = fact(1, 0, 0, Life::Session(1));
+    let second = fact(1, 0, 0, Life::Session(3));
     assert!(rt; leaves_the_second(rt.alloc(), first, second));
 }

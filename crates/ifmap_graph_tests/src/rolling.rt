@@ -21,7 +21,11 @@ pub(crate) struct Mix {
 pub(crate) fn roll_by(dice: &mut Dice) -> By {
     let client = dice.roll(2) as usize;
     let time = dice.roll(3) as usize;
-    By { client, time }
+    By {
+        client,
+        serial: serial_of(client),
+        time,
+    }
 }
 
 pub(crate) fn roll_end(dice: &mut Dice) -> End {

@@ -1,24 +1,10 @@
-//! Tests of scripts: their answers from outside, worked examples, the forms of headers, requests in any
-//! spelling and with defects, and sources and sinks that fail.
+//! Tests of scripts with sources and sinks that fail, and of answers that are handed on before more is read. What is written for a
+//! script is tested by `tests/scripts`.
 #![tactic(auto)]
 
 #[cfg(test)]
-mod examples;
-#[cfg(test)]
-mod exchanges;
-#[cfg(test)]
-mod outside;
-#[cfg(test)]
 mod pacing;
-#[cfg(test)]
-mod pairs;
-#[cfg(test)]
-mod refusals;
 #[cfg(test)]
 mod replays;
 #[cfg(test)]
 mod scripts;
-#[cfg(test)]
-mod spellings;
-#[cfg(test)]
-mod subscriptions;

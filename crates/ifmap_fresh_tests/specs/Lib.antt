@@ -1,2 +1,0 @@
--- What plain lists show.
-pub mod Lists
