@@ -2,9 +2,12 @@
 //! what the layer answers. It is for the rows of tests alone: no program is linked with it.
 #![tactic(auto)]
 
+mod drips;
 mod escapes;
 mod identifiers;
+mod posts;
 
+use crate::posts::Reading;
 use std::alloc::{AllocError as NoMemory, Global};
 use std::io;
 use std::io::{BufRead, BufReader};
@@ -26,6 +29,14 @@ fn answer_of(alloc: Global, line: &str) -> Result<String, NoMemory> {
     let (layer, asked) = line.split_once(' ').unwrap_or((line, ""));
     match layer {
         "identifier" => identifiers::answer_of(alloc, asked),
+        "post" => posts::answer_of(alloc, Reading::Post, asked),
+        "posts" => posts::answer_of(alloc, Reading::Posts, asked),
+        "answer" => posts::answer_of(alloc, Reading::Answer, asked),
+        "post-parts" => posts::parts_of(alloc, Reading::Post, asked),
+        "answer-parts" => posts::parts_of(alloc, Reading::Answer, asked),
+        "failing" => posts::failing_of(alloc, asked),
+        "ask" => posts::ask_of(alloc, asked, posts::AFTER_FLUSH),
+        "tell" => posts::tell_of(alloc, asked, posts::AFTER_FLUSH),
         _ => String::from_str(alloc, "no such layer"),
     }
 }
