@@ -18,9 +18,9 @@ A case begins with `== what it shows`. In it a line names who is at hand, and th
     shut  close            the connection ends to one side, and to both
 
 A line comes when what is due for the one before it has come, so clients that are named in turn run beside each other. What is not
-said to end ends with status 0 and tells nothing; all that is printed is due, to the byte. [random] is the random part of a session:
-it is bound where it is first due, and [random2] and so on too. [now] is a moment of the case. {nowhere} is an address at which
-nothing listens, and {address} that at which the runner does.
+said to end ends with status 0 and tells nothing; all that comes is due, to the byte. [random] is the random part of a session: it
+is bound where it is first due, as are [random2] and so on. [now] is a moment of the case. {nowhere} is an address where nothing
+listens, and {address} that where the runner does.
 """
 import re
 import select
