@@ -5,6 +5,7 @@
 mod drips;
 mod escapes;
 mod identifiers;
+mod moments;
 mod posts;
 
 use crate::posts::Reading;
@@ -29,6 +30,7 @@ fn answer_of(alloc: Global, line: &str) -> Result<String, NoMemory> {
     let (layer, asked) = line.split_once(' ').unwrap_or((line, ""));
     match layer {
         "identifier" => identifiers::answer_of(alloc, asked),
+        "moment" => moments::answer_of(alloc, asked),
         "post" => posts::answer_of(alloc, Reading::Post, asked),
         "posts" => posts::answer_of(alloc, Reading::Posts, asked),
         "answer" => posts::answer_of(alloc, Reading::Answer, asked),
