@@ -122,9 +122,9 @@ class Program:
         self.has_ended = False
 
     def give(self, sign, text, _marks):
+        if sign not in (">", ">-"):
+            raise Unreadable(f"a program is given lines, not {sign}")
         try:
-            if sign not in (">", ">-"):
-                raise Unreadable(f"a program is given lines: {sign}")
             self.write(text + (b"\n" if sign == ">" else b""))
             if sign == ">-":
                 self.process.stdin.close()
@@ -174,7 +174,9 @@ class Connection:
         self.has_ended = False
 
     def give(self, sign, text, marks):
-        self.stream.sendall({">": lambda: text, ">=": lambda: answer(text, marks), ">@": lambda: post(text, marks)}[sign]())
+        if sign not in (">", ">=", ">@"):
+            raise Unreadable(f"a connection is given bytes, not {sign}")
+        self.stream.sendall(text if sign == ">" else answer(text, marks) if sign == ">=" else post(text, marks))
         # So that what comes next is another piece.
         time.sleep(0.02)
 
@@ -237,36 +239,51 @@ class Case:
         return self.place
 
     def begin_server(self):
-        with socket.socket() as free:
-            free.bind(("127.0.0.1", 0))
-            self.port = free.getsockname()[1]
-        self.place = f"127.0.0.1:{self.port}"
-        self.server = Program([self.programs["mapd"], "serve", self.place, str(WORKERS)])
-        for _ in range(PATIENCE * 100):
-            if self.server.process.poll() is not None:
-                raise Wrong(f"    the server ended with status {self.server.process.returncode}")
-            try:
-                socket.create_connection(("127.0.0.1", self.port)).close()
+        """Begins the server at a port that was free a moment ago, and at another where it was taken since."""
+        for _ in range(5):
+            with socket.socket() as free:
+                free.bind(("127.0.0.1", 0))
+                self.place = "127.0.0.1:%d" % free.getsockname()[1]
+            self.server = Program([self.programs["mapd"], "serve", self.place, str(WORKERS)])
+            if self.listens():
                 return
-            except ConnectionRefusedError:
-                time.sleep(0.01)
+            self.server.close()
         raise Wrong("    the server does not listen")
 
+    def listens(self):
+        deadline = time.monotonic() + PATIENCE
+        while self.server.process.poll() is None and time.monotonic() < deadline:
+            try:
+                self.connect().close()
+                return True
+            except ConnectionRefusedError:
+                time.sleep(0.01)
+        return False
+
+    def connect(self):
+        host, port = self.place.split(":")
+        return socket.create_connection((host, int(port)), PATIENCE)
+
     def step(self, line):
-        if line == "listen":
+        word = line.split(" ")[0]
+        if word in ("client", "socket", "first", "second", "run"):
+            self.now = self.people.get(line) or self.people.setdefault(line, self.begin(*line.split(" ", 1)))
+        elif line == "listen":
             self.listener = socket.create_server(("127.0.0.1", 0))
             self.listener.settimeout(PATIENCE)
+        elif self.now is None:
+            raise Unreadable(f"nobody is named before: {line}")
         elif line.startswith("    "):
             self.compare(line[4:])
         elif line.startswith(">"):
             sign, _, text = line.partition(" ")
             self.now.give(sign, self.marks.fill(bytes_of(text)), self.marks)
-        elif line.split(" ")[0] == "ends":
+        elif word == "ends":
             self.now.end(bytes_of(line[5:]))
-        elif line in ("shut", "close"):
+        elif line in ("shut", "close") and isinstance(self.now, Connection):
             getattr(self.now, line)()
         else:
-            self.now = self.people.get(line) or self.people.setdefault(line, self.begin(*line.split(" ", 1)))
+            raise Unreadable(f"a line of no form: {line}")
 
     def compare(self, text):
         sign, _, rest = text.partition(" ")
@@ -277,10 +294,11 @@ class Case:
         if kind == "client":
             return Program([self.programs["mapc"], self.address(), words])
         if kind == "socket":
-            return Connection(socket.create_connection(("127.0.0.1", int(self.address().split(":")[1]))), self.place)
-        if kind in ("first", "second"):
+            self.address()
+            return Connection(self.connect(), self.place)
+        if kind in ("first", "second") and self.listener:
             return Connection(self.listener.accept()[0], self.address())
-        if kind == "run":
+        if kind == "run" and words:
             program, *rest = shlex.split(words)
             return Program([self.programs[program], *rest])
         raise Unreadable(f"a line of no form: {kind} {words}")
@@ -289,8 +307,16 @@ class Case:
         for it in self.people.values():
             if not it.has_ended:
                 it.finish()
-        if self.server and self.server.process.poll() is not None:
+        if self.server:
+            self.end_server()
+
+    def end_server(self):
+        """The server is to go on to the end, and to write nothing."""
+        if self.server.process.poll() is not None:
             raise Wrong(f"    the server ended with status {self.server.process.returncode}")
+        self.server.process.kill()
+        if written := self.server.reader.rest() + self.server.process.stderr.read():
+            raise Wrong(f"    the server wrote: {written!r}")
 
     def close(self):
         for it in (*self.people.values(), self.server, self.listener, self.nowhere):
