@@ -2,11 +2,21 @@
 //! what the layer answers. It is for the rows of tests alone: no program is linked with it.
 #![tactic(auto)]
 
+mod client_lines;
+mod client_sets;
+mod command_words;
+mod copies;
 mod drips;
 mod escapes;
+mod filter_pairs;
+mod filters;
 mod identifiers;
+mod meetings;
 mod moments;
+mod polls;
 mod posts;
+mod search_copies;
+mod sizes;
 
 use crate::posts::Reading;
 use std::alloc::{AllocError as NoMemory, Global};
@@ -30,6 +40,19 @@ fn answer_of(alloc: Global, line: &str) -> Result<String, NoMemory> {
     let (layer, asked) = line.split_once(' ').unwrap_or((line, ""));
     match layer {
         "identifier" => identifiers::answer_of(alloc, asked),
+        "filter" => filters::answer_of(alloc, asked),
+        "filter-among" => filters::answer_among(alloc, asked),
+        "filter-parts" => filters::parts_of(alloc, asked),
+        "filter-spaces" => filter_pairs::spaces_of(alloc, asked),
+        "filter-serves" => filter_pairs::service_of(alloc, asked),
+        "filter-copy" => filter_pairs::copy_of(alloc, asked),
+        "meets" => meetings::answer_of(alloc, asked),
+        "words" => command_words::answer_of(alloc, asked),
+        "client-line" => client_lines::answer_of(alloc, asked),
+        "client-set" => client_sets::answer_of(alloc, asked),
+        "poll-size" => sizes::answer_of(alloc, asked),
+        "too-big" => sizes::refusal_of(alloc, asked),
+        "search-copy" => search_copies::answer_of(alloc, asked),
         "moment" => moments::answer_of(alloc, asked),
         "post" => posts::answer_of(alloc, Reading::Post, asked),
         "posts" => posts::answer_of(alloc, Reading::Posts, asked),
