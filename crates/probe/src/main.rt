@@ -6,17 +6,23 @@ mod client_lines;
 mod client_sets;
 mod command_words;
 mod copies;
+mod documents;
 mod drips;
+mod elements;
 mod escapes;
 mod filter_pairs;
 mod filters;
 mod identifiers;
 mod meetings;
+mod metadata;
 mod moments;
+mod outlines;
 mod polls;
 mod posts;
 mod search_copies;
+mod signs;
 mod sizes;
+mod tokens;
 
 use crate::posts::Reading;
 use std::alloc::{AllocError as NoMemory, Global};
@@ -39,7 +45,27 @@ fn main(rt: HostRuntime) -> io::Result<()> {
 fn answer_of(alloc: Global, line: &str) -> Result<String, NoMemory> {
     let (layer, asked) = line.split_once(' ').unwrap_or((line, ""));
     match layer {
+        "token" => tokens::answer_of(alloc, asked),
+        "read" => elements::read_of(alloc, asked),
+        "written" => elements::written_of(alloc, asked),
+        "same" => elements::same_of(alloc, asked),
+        "bare" => elements::bare_of(alloc, asked),
+        "scope" => elements::scope_of(alloc, asked),
+        "outline" => outlines::answer_of(alloc, asked),
         "identifier" => identifiers::answer_of(alloc, asked),
+        "identifier-order" => identifiers::order_of(alloc, asked),
+        "identifier-errors" => identifiers::errors(alloc),
+        "identity-type" => identifiers::identity_type_of(alloc, asked),
+        "link" => identifiers::link_of(alloc, asked),
+        "metadata" => metadata::answer_of(alloc, asked),
+        "metadata-alike" => metadata::alike_of(alloc, asked),
+        "metadata-errors" => metadata::errors(alloc),
+        "content" => metadata::content_of(alloc, asked),
+        "stored" => metadata::stored_of(alloc, asked),
+        "keys" => metadata::keys_of(alloc, asked),
+        "types" => metadata::types_of(alloc, asked),
+        "client-name" => metadata::client_name_of(alloc, asked),
+        "client-order" => metadata::client_order_of(alloc, asked),
         "filter" => filters::answer_of(alloc, asked),
         "filter-among" => filters::answer_among(alloc, asked),
         "filter-parts" => filters::parts_of(alloc, asked),
