@@ -1,13 +1,6 @@
-//! Tests of a client's script over links in memory and over sockets; and who asks in tests of such
-//! scripts.
+//! Tests of a client's script over a source, a sink and links whose calls fail. What needs no failing call
+//! stands in tests/clients.
 #![tactic(auto)]
 
-pub mod clients;
 #[cfg(test)]
-mod faults;
-#[cfg(test)]
-mod makers;
-#[cfg(test)]
-mod scripts;
-#[cfg(test)]
-mod sockets;
+mod tests;

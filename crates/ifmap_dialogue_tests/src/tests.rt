@@ -20,22 +20,14 @@ const POLL: &str = "<i:poll session-id='s'/>";
 
 const RENEW: &str = "<i:renewSession session-id='s'/>";
 
-// Of no form that the protocol has.
-const OTHER: &str = "<i:frobnicate/>";
-
 const RENEWED: &str = "<renewSessionResult/>";
 
 const TOLD: &str = "<pollResult/>";
-
-const FAILURE: &str =
-    "<errorResult errorCode=\"Failure\"><errorString>Failure</errorString></errorResult>";
 
 const BEFORE: &str =
     "<n1:Envelope xmlns:n1=\"http://www.w3.org/2003/05/soap-envelope\" xmlns:n2=\"http://www.trustedcomputinggroup.org/2010/IFMAP/2\"><n1:Body><n2:response>";
 
 const AFTER: &str = "</n2:response></n1:Body></n1:Envelope>";
-
-const BAD: &str = "HTTP/1.1 400 Bad Request\r\ncontent-length: 0\r\nconnection: close\r\n\r\n";
 
 const FULL: &str =
     "HTTP/1.1 507 Insufficient Storage\r\ncontent-length: 0\r\nconnection: close\r\n\r\n";
@@ -205,41 +197,6 @@ fn each_call_of_the_link_fails_in_turn(rt: HostRuntime) -> Result<(), Fail> {
     for failing in &FAILING {
         let call = failing.0;
         assert!(rt; fails_so(alloc, &posts, failing)?, "{call}");
-    }
-    Ok(())
-}
-
-// What stands in the body of a post, what is answered, and the ending.
-type Body = (&'static str, &'static [&'static str], &'static str, Ending);
-
-static BODIES: [Body; 3] = [
-    (RENEW, &[RENEWED], "", Ending::Ended),
-    (OTHER, &[FAILURE], "", Ending::Ended),
-    ("<a/><b/>", &[], BAD, Ending::Refused(400)),
-];
-
-// The answers with these results, and bytes after them.
-fn answers_and(alloc: Global, results: &[&str], bare: &str) -> Result<String, NoMemory> {
-    let mut held = answers_of(alloc, results)?;
-    held.push_str(bare)?;
-    Ok(held)
-}
-
-// Whether a post with this body is answered once, and so.
-fn is_answered(alloc: Global, body: &Body) -> Result<bool, NoMemory> {
-    let (inner, results, bare, ending) = body;
-    let held = answers_and(alloc, results, bare)?;
-    let mut desk = desk_of(alloc, &[Plan::Told], Plan::Answered, Plan::Answered)?;
-    let served = serve(alloc, &mut desk, &posts_of(alloc, &[inner])?, &[], 0)?;
-    Ok(is_served(&served, ending, &held) && served.gate.answers == 1)
-}
-
-#[test]
-fn a_body_is_answered_by_what_it_means(rt: HostRuntime) -> Result<(), Fail> {
-    let alloc = rt.alloc();
-    for body in &BODIES {
-        let inner = body.0;
-        assert!(rt; is_answered(alloc, body)?, "{inner}");
     }
     Ok(())
 }

@@ -5,46 +5,10 @@ use ifmap_io::{
 };
 use std::collections::VecDeque;
 use std::fs::File;
-use std::io::Write;
-use std::net::{Shutdown, TcpListener, TcpStream};
+use std::net::{TcpListener, TcpStream};
 use std::test::Fail;
 use std::thread;
 use std::thread::Threads;
-
-// As `date -u` prints them.
-const DATES: [(u64, &str); 15] = [
-    (0, "1970-01-01T00:00:00Z"),
-    (951782399, "2000-02-28T23:59:59Z"),
-    (951782400, "2000-02-29T00:00:00Z"),
-    (951868799, "2000-02-29T23:59:59Z"),
-    (951868800, "2000-03-01T00:00:00Z"),
-    (1000000000, "2001-09-09T01:46:40Z"),
-    (1614556799, "2021-02-28T23:59:59Z"),
-    (1709164800, "2024-02-29T00:00:00Z"),
-    (4102444799, "2099-12-31T23:59:59Z"),
-    (4102444800, "2100-01-01T00:00:00Z"),
-    (4107542399, "2100-02-28T23:59:59Z"),
-    (4107542400, "2100-03-01T00:00:00Z"),
-    (13574563199, "2400-02-28T23:59:59Z"),
-    (13574563200, "2400-02-29T00:00:00Z"),
-    (253402300799, "9999-12-31T23:59:59Z"),
-];
-
-// Whether a moment has these seconds and prints as this date.
-fn prints(seconds: u64, date: &str) -> bool {
-    Moment::new(seconds).is_some_and(|moment| {
-        moment.seconds() == seconds && moment.text().as_slice() == date.as_bytes()
-    })
-}
-
-#[test]
-fn moments_print_as_their_dates(rt: HostRuntime) -> Result<(), Fail> {
-    for (seconds, date) in &DATES {
-        assert!(rt; prints(*seconds, date), "at {seconds}");
-    }
-    assert!(rt; Moment::new(253402300800).is_none());
-    Ok(())
-}
 
 // What four reads answer, of which the second fails, and whether each took what it says.
 fn read_answers(source: &mut MemorySource) -> [Result<usize, Failed>; 4] {
@@ -296,29 +260,5 @@ fn serve_beside(rt: &(impl Threads + Sync), doors: &mut [MemoryDoor]) -> Option<
 fn doors_and_links_cross_threads(rt: HostRuntime) -> Result<(), Fail> {
     let mut doors = two_doors(&rt)?;
     assert_eq!(rt; serve_beside(&rt, &mut doors), Some(2));
-    Ok(())
-}
-
-// Whether a client is answered with what it has sent, by doors in threads, and then no more.
-fn is_echoed<C: Clock + Sync>(
-    rt: &(impl Threads + Sync),
-    clock: &C,
-    listener: &TcpListener,
-    stream: TcpStream,
-) -> bool {
-    let mut doors = [TcpDoor::new(listener), TcpDoor::new(listener)];
-    serve_all(rt, &mut doors, clock);
-    reads(&mut TcpLink::new(stream), b"ping")
-}
-
-#[test]
-fn sockets_are_served_in_threads(rt: HostRuntime) -> Result<(), Fail> {
-    let listener = TcpListener::bind(&rt, "127.0.0.1:0")?;
-    let stream = TcpStream::connect(&rt, listener.local_addr()?)?;
-    (&stream).write_all(b"ping")?;
-    stream.shutdown(Shutdown::Write)?;
-    // So that a door fails, and ends its thread, where no connection waits.
-    listener.set_nonblocking(true)?;
-    assert!(rt; is_echoed(&rt, &SystemClock::new(&rt), &listener, stream));
     Ok(())
 }

@@ -1,8 +1,6 @@
 //! Connections one after another at one server, with what each is answered.
-use crate::clients::{clock_of, serve_stands};
-use ifmap_dialogue_tests::desk::CountingGate;
+use crate::servers::{serve, stand_of};
 use ifmap_io::{MemoryDoor, MemoryLink};
-use ifmap_program::Stand;
 use ifmap_serving_tests::posts::{answers_of, posts_of};
 use std::alloc::{AllocError as NoMemory, Global};
 use std::collections::VecDeque;
@@ -152,20 +150,12 @@ fn link_of(alloc: Global, connection: &Connection) -> Result<MemoryLink, NoMemor
     Ok(MemoryLink::new(left, Vec::new(alloc), fails))
 }
 
-fn door_of(alloc: Global, case: &Case) -> Result<MemoryDoor, NoMemory> {
+fn links_of(alloc: Global, case: &Case) -> Result<VecDeque<MemoryLink>, NoMemory> {
     let mut links = VecDeque::new(alloc);
     for connection in case.connections {
         links.push_back(link_of(alloc, connection)?)?;
     }
-    MemoryDoor::new(alloc, links, Vec::new(alloc))
-}
-
-fn stand_of(alloc: Global, case: &Case) -> Result<Stand<MemoryDoor, CountingGate>, NoMemory> {
-    let gate = CountingGate {
-        asks: 0,
-        answers: 0,
-    };
-    Ok(Stand::new(door_of(alloc, case)?, gate))
+    Ok(links)
 }
 
 // The link that came back holds the answers that are due.
@@ -186,11 +176,10 @@ fn are_answered(alloc: Global, case: &Case, door: &MemoryDoor) -> Result<bool, N
 fn connections_are_answered_in_turn(rt: HostRuntime) -> Result<(), Fail> {
     let alloc = rt.alloc();
     for (number, case) in CASES.iter().enumerate() {
-        let mut stands = [stand_of(alloc, case)?];
-        let clock = clock_of(case.step);
-        let status = serve_stands(&rt, alloc, "1", &clock, &mut stands);
-        let answered = are_answered(alloc, case, &stands[0].door);
-        assert!(rt; status == Ok(0) && answered == Ok(true), "case {number}");
+        let mut stands = [stand_of(alloc, links_of(alloc, case)?)?];
+        let (status, _) = serve(&rt, alloc, "1", case.step, &mut stands)?;
+        let answered = are_answered(alloc, case, &stands[0].door)?;
+        assert!(rt; status == 0 && answered, "case {number}");
         assert!(rt; stands[0].gate.asks == case.asks, "case {number}");
     }
     Ok(())

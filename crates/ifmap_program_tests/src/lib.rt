@@ -1,12 +1,10 @@
-//! Tests of the one call of the program: which words lead where, a client's script beside a server, and
-//! connections one after another.
+//! Tests of the one call of the program: as many doors as there are workers, and connections one after
+//! another by a clock in memory. What the program itself can be asked stands in tests/clients.
 #![tactic(auto)]
 
 #[cfg(test)]
-mod clients;
-#[cfg(test)]
 mod connections;
-pub mod gates;
-pub mod makers;
+#[cfg(test)]
+mod servers;
 #[cfg(test)]
 mod tests;

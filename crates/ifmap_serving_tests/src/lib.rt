@@ -1,9 +1,8 @@
-//! Tests of workers: connections of a door in order, doors that fail, workers beside each other, and
-//! an exchange over sockets.
+//! Tests of workers: connections of a door in order, doors that fail, and workers beside each other.
 #![tactic(auto)]
 
-pub mod doors;
-pub mod gates;
+#[cfg(test)]
+mod gates;
 pub mod posts;
 #[cfg(test)]
 mod tests;

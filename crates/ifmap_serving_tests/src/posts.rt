@@ -6,41 +6,29 @@ const ENVELOPE: &str =
 
 const METADATA: &str = " xmlns:n3=\"http://www.trustedcomputinggroup.org/2010/IFMAP-METADATA/2\"";
 
-/// The field of a head that asks for closing.
-pub const CLOSING: &str = "connection: close\r\n";
-
-/// The post of a client with this request, and these fields besides in its head.
-pub fn post_of(
-    alloc: Global,
-    client: &str,
-    request: &str,
-    fields: &str,
-) -> Result<String, NoMemory> {
+// The post of a client with this request.
+fn post_of(alloc: Global, client: &str, request: &str) -> Result<String, NoMemory> {
     let mut body = String::from_str(alloc, ENVELOPE)?;
     for part in [METADATA, "><n1:Body>", request, "</n1:Body></n1:Envelope>"] {
         body.push_str(part)?;
     }
     let length = body.len();
-    let mut post = format!(in alloc;
-        "POST /ifmap HTTP/1.1\r\nifmap-client: {client}\r\ncontent-length: {length}\r\n"
-    )?;
-    for part in [fields, "\r\n", &body] {
-        post.push_str(part)?;
-    }
-    Ok(post)
+    format!(in alloc;
+        "POST /ifmap HTTP/1.1\r\nifmap-client: {client}\r\ncontent-length: {length}\r\n\r\n{body}"
+    )
 }
 
 /// The posts of a client with these requests.
 pub fn posts_of(alloc: Global, client: &str, requests: &[&str]) -> Result<String, NoMemory> {
     let mut posts = String::new(alloc);
     for request in requests {
-        posts.push_str(&post_of(alloc, client, request, "")?)?;
+        posts.push_str(&post_of(alloc, client, request)?)?;
     }
     Ok(posts)
 }
 
-/// The body of the answer with this result. The prefix `n3` is declared where the result uses it.
-pub fn reply_body(alloc: Global, told: &str) -> Result<String, NoMemory> {
+// The body of the answer with this result. The prefix `n3` is declared where the result uses it.
+fn reply_body(alloc: Global, told: &str) -> Result<String, NoMemory> {
     let metadata = if told.contains("<n3:") { METADATA } else { "" };
     let mut body = String::from_str(alloc, ENVELOPE)?;
     for part in [
@@ -52,14 +40,6 @@ pub fn reply_body(alloc: Global, told: &str) -> Result<String, NoMemory> {
         body.push_str(part)?;
     }
     Ok(body)
-}
-
-/// Appends a reply as a client's script prints it.
-pub fn push_reply(alloc: Global, told: &str, printed: &mut String) -> Result<(), NoMemory> {
-    let body = reply_body(alloc, told)?;
-    let length = body.len();
-    printed.push_str(&format!(in alloc; "={length}\n")?)?;
-    printed.push_str(&body)
 }
 
 /// The answers with these results.

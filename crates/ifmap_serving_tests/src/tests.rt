@@ -1,19 +1,16 @@
 //! What no clause says: which bytes come back from a door, and that workers run beside each other.
 ghost use Rattle.std.specs.Prelude.{◌≡◌};
 
-use crate::doors::ShortDoor;
 use crate::gates::WaitingGate;
-use crate::posts::{CLOSING, answers_of, post_of, posts_of, reply_body};
+use crate::posts::{answers_of, posts_of};
 use ifmap_dialogue_tests::desk::{CountingGate, Noted, PlainDesk, Plan};
-use ifmap_http::{Answered, Wire};
-use ifmap_io::{MemoryClock, MemoryDoor, MemoryLink, Moment, Sink, TcpDoor, TcpLink};
+use ifmap_io::{MemoryClock, MemoryDoor, MemoryLink, Moment};
 use ifmap_serving::{Stand, serve, work};
 use rand_chacha::ChaCha20Rng;
 use rand_core::SeedableRng;
 use rand_core::utils::NextWord;
 use std::alloc::{AllocError as NoMemory, Global};
 use std::collections::VecDeque;
-use std::net::{TcpListener, TcpStream};
 use std::sync::Wait;
 use std::sync::atomic::AtomicU64;
 use std::test::Fail;
@@ -234,39 +231,5 @@ fn workers_run_beside_each_other(rt: HostRuntime) -> Result<(), Fail> {
     assert!(rt; status == 0);
     assert!(rt; has_told(alloc, &stands[0], &[FIRST_BEGUN, SUBSCRIBED, TOLD]));
     assert!(rt; has_told(alloc, &stands[1], &[SECOND_BEGUN, PUBLISHED]));
-    Ok(())
-}
-
-// A client asks for a session and for closing.
-fn asks(alloc: Global, client: &mut TcpLink) -> bool {
-    match post_of(alloc, "c1", BEGIN, CLOSING) {
-        Ok(post) => client.write_all(post.as_bytes()).is_ok(),
-        Err(_) => false,
-    }
-}
-
-// Its session is begun.
-fn is_begun(alloc: Global, client: TcpLink) -> Result<bool, NoMemory> {
-    let due = reply_body(alloc, FIRST_BEGUN)?;
-    let mut wire = Wire::new(alloc, client);
-    Ok(match wire.read_answer(alloc) {
-        Answered::Body(body) => body.0.as_slice() == due.as_bytes(),
-        _ => false,
-    })
-}
-
-#[test]
-fn a_connection_is_served_over_sockets(rt: HostRuntime) -> Result<(), Fail> {
-    let alloc = rt.alloc();
-    let listener = TcpListener::bind(&rt, "127.0.0.1:0")?;
-    let mut client = TcpLink::new(TcpStream::connect(&rt, listener.local_addr()?)?);
-    assert!(rt; asks(alloc, &mut client));
-    let door = ShortDoor {
-        door: TcpDoor::new(&listener),
-        left: 1,
-    };
-    let mut stands = [Stand::new(door, open_gate())];
-    let status = serve(&rt, alloc, KEY, &mut stands, &still_clock());
-    assert!(rt; status == 0 && is_begun(alloc, client) == Ok(true));
     Ok(())
 }

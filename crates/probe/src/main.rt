@@ -7,6 +7,7 @@ mod client_sets;
 mod command_words;
 mod copies;
 mod documents;
+mod drips;
 mod elements;
 mod escapes;
 mod filter_pairs;
@@ -14,8 +15,10 @@ mod filters;
 mod identifiers;
 mod meetings;
 mod metadata;
+mod moments;
 mod outlines;
 mod polls;
+mod posts;
 mod replies;
 mod requests;
 mod search_copies;
@@ -23,6 +26,7 @@ mod signs;
 mod sizes;
 mod tokens;
 
+use crate::posts::Reading;
 use std::alloc::{AllocError as NoMemory, Global};
 use std::io;
 use std::io::{BufRead, BufReader};
@@ -81,6 +85,15 @@ fn answer_of(alloc: Global, line: &str) -> Result<String, NoMemory> {
         "poll-size" => sizes::answer_of(alloc, asked),
         "too-big" => sizes::refusal_of(alloc, asked),
         "search-copy" => search_copies::answer_of(alloc, asked),
+        "moment" => moments::answer_of(alloc, asked),
+        "post" => posts::answer_of(alloc, Reading::Post, asked),
+        "posts" => posts::answer_of(alloc, Reading::Posts, asked),
+        "answer" => posts::answer_of(alloc, Reading::Answer, asked),
+        "post-parts" => posts::parts_of(alloc, Reading::Post, asked),
+        "answer-parts" => posts::parts_of(alloc, Reading::Answer, asked),
+        "failing" => posts::failing_of(alloc, asked),
+        "ask" => posts::ask_of(alloc, asked, posts::AFTER_FLUSH),
+        "tell" => posts::tell_of(alloc, asked, posts::AFTER_FLUSH),
         _ => String::from_str(alloc, "no such layer"),
     }
 }
