@@ -32,6 +32,7 @@ import time
 from runner.cases import TESTS, File, Names, Result, Unreadable, bytes_of, difference, name_of
 
 PROGRAMS = ("mapd", "mapc")
+IS_RUN_UNPROVED = False
 # How long a line or a message may take to come, in seconds, and how many connections a server serves beside each other.
 PATIENCE, WORKERS = 20, 8
 MARK = re.compile(rb"\[(random[0-9]*|now)\]")
@@ -244,7 +245,7 @@ class Case:
             with socket.socket() as free:
                 free.bind(("127.0.0.1", 0))
                 self.place = "127.0.0.1:%d" % free.getsockname()[1]
-            self.server = Program([self.programs["mapd"], "serve", self.place, str(WORKERS)])
+            self.server = Program([self.programs["mapd"].path, "serve", self.place, str(WORKERS)])
             if self.listens():
                 return
             self.server.close()
@@ -292,7 +293,7 @@ class Case:
 
     def begin(self, kind, words=""):
         if kind == "client":
-            return Program([self.programs["mapc"], self.address(), words])
+            return Program([self.programs["mapc"].path, self.address(), words])
         if kind == "socket":
             self.address()
             return Connection(self.connect(), self.place)
@@ -300,7 +301,7 @@ class Case:
             return Connection(self.listener.accept()[0], self.address())
         if kind == "run" and words:
             program, *rest = shlex.split(words)
-            return Program([self.programs[program], *rest])
+            return Program([self.programs[program].path, *rest])
         raise Unreadable(f"a line of no form: {kind} {words}")
 
     def end(self):

@@ -1,10 +1,9 @@
 """Rows: a line for the program `probe`, which names a layer and what is put to it, and below it, four spaces further in, the line
 that is due. Lines between cases that begin with `#` are for the reader, and `let NAME = TEXT` names a text that repeats."""
-import subprocess
-
 from runner.cases import TESTS, File, Names, Result, Unreadable, difference, name_of
 
 PROGRAMS = ("probe",)
+IS_RUN_UNPROVED = True
 
 
 def files():
@@ -31,10 +30,9 @@ def rows_of(path):
 
 def run(path, probe):
     rows = rows_of(path)
-    asked = "".join(f"{line}\n" for _, line, _ in rows).encode()
-    ran = subprocess.run([probe], input=asked, capture_output=True, check=False)
-    got = ran.stdout.decode(errors="replace").split("\n")
-    if ran.returncode or len(got) != len(rows) + 1:
-        told = f"    probe ended with status {ran.returncode} after {len(got) - 1} of {len(rows)} rows"
+    ran = probe.run([], "".join(f"{line}\n" for _, line, _ in rows).encode())
+    got = ran.output.decode(errors="replace").split("\n")
+    if ran.status != 0 or len(got) != len(rows) + 1:
+        told = f"    probe ended with status {ran.status} after {len(got) - 1} of {len(rows)} rows"
         return [Result(f"{name_of(path)}", told)]
     return [Result(f"{name_of(path)}:{number}", difference(due, answer)) for (number, _, due), answer in zip(rows, got)]

@@ -19,14 +19,13 @@ new line. `raw TEXT` puts bytes into the script that are no frame of this form. 
 that is due where it is neither 0 nor that of an offset. `let NAME = TEXT` and `{NAME}` are as in rows; the file `names` is for
 all. A line that begins with `#` is for the reader."""
 import re
-import subprocess
 from typing import NamedTuple
 
 from runner.cases import TESTS, File, Names, Result, Unreadable, bytes_of, cut, difference, name_of
 
 PROGRAMS = ("mapd",)
+IS_RUN_UNPROVED = True
 FOLDER = TESTS / "scripts"
-SECONDS = 120
 
 SOAP = b"http://www.w3.org/2003/05/soap-envelope"
 IFMAP = b"http://www.trustedcomputinggroup.org/2010/IFMAP/2"
@@ -191,14 +190,11 @@ def output_difference(case, output):
 
 
 def result_of(case, mapd):
-    script = b"".join(step.asked for step in case.steps)
-    try:
-        ran = subprocess.run([mapd, *case.words], input=script, capture_output=True, check=False, timeout=SECONDS)
-    except subprocess.TimeoutExpired:
-        return Result(case.name, f"    it did not end in {SECONDS} seconds")
-    told = output_difference(case, ran.stdout)
-    if told is None and ran.returncode != case.status:
-        told = f"    wanted status {case.status}\n    got    status {ran.returncode} {shown_text(ran.stderr[:300])}".rstrip()
+    ran = mapd.run(case.words, b"".join(step.asked for step in case.steps))
+    told = output_difference(case, ran.output)
+    if ran.status != case.status:
+        came = f"    wanted status {case.status}\n    got    status {'none: it did not end' if ran.status is None else ran.status}"
+        told = told or came
     return Result(case.name, told)
 
 
