@@ -38,23 +38,21 @@ class Unproved:
     """A program that `rt try` compiles once for all that it is asked: what is asked is noted first, and told when it was run."""
 
     def __init__(self, name):
-        self.name, self.asked, self.ran = name, {}, {}
+        self.name, self.asked, self.ran = name, [], {}
 
     def run(self, words, asked):
         key = (tuple(words), asked)
-        self.asked.setdefault(key[0], []).append(key)
+        self.asked.append(key)
         return self.ran.get(key, Ran(None, b""))
 
     def run_all(self):
-        for words, keys in self.asked.items():
-            self.run_some(words, [*dict.fromkeys(keys)])
-
-    def run_some(self, words, keys):
+        asked = [*dict.fromkeys(self.asked)]
         with tempfile.TemporaryDirectory() as room:
-            for number, (_, asked) in enumerate(keys):
-                pathlib.Path(room, f"case{number}").write_bytes(asked)
+            for number, (words, given) in enumerate(asked):
+                pathlib.Path(room, f"case{number}").write_bytes(given)
+                pathlib.Path(room, f"case{number}.args").write_text("".join(f"{word}\n" for word in words))
             # (the program runs in an interpreter as well: with few steps that gives up at once)
-            command = ["rt", "try", "--steps", "1000", "--cases", room, "--", *words]
+            command = ["rt", "try", "--steps", "1000", "--seconds", str(SECONDS), "--cases", room]
             where = TESTS.parent / "crates" / self.name
             ran = subprocess.run(command, cwd=where, stdin=subprocess.DEVNULL, capture_output=True, check=False)
         told = dict(re.findall(rb"^case=case([0-9]+) run=ended status=([0-9]+)", ran.stderr, re.MULTILINE))
@@ -63,4 +61,4 @@ class Unproved:
         parts = re.split(rb"^== case([0-9]+)\n", ran.stdout, flags=re.MULTILINE)
         for number, output in zip(parts[1::2], parts[2::2]):
             if number in told:
-                self.ran[keys[int(number)]] = Ran(int(told[number]), output)
+                self.ran[asked[int(number)]] = Ran(int(told[number]), output)

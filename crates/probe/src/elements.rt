@@ -38,7 +38,7 @@ pub fn written_of(alloc: Global, asked: &str) -> Result<String, NoMemory> {
     }
 }
 
-fn spaces_of(alloc: Global, words: &str) -> Result<Many<Text>, NoMemory> {
+pub fn spaces_of(alloc: Global, words: &str) -> Result<Many<Text>, NoMemory> {
     let mut spaces = Vec::new(alloc);
     for word in words.split(',') {
         spaces.push(Text::from_str(alloc, word)?)?;

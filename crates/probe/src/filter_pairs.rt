@@ -15,10 +15,9 @@ fn pair_of(alloc: Global, asked: &str) -> Result<Pair, FilterError> {
     let (scope, texts) = asked.split_once(' ').unwrap_or((asked, ""));
     let (first, second) = texts.split_once('|').unwrap_or((texts, ""));
     let scope = scope_of(alloc, scope)?;
-    Ok(Pair {
-        first: filter_of(alloc, &scope, first)?,
-        second: filter_of(alloc, &scope, second)?,
-    })
+    let first = filter_of(alloc, &scope, first)?;
+    let second = filter_of(alloc, &scope, second)?;
+    Ok(Pair { first, second })
 }
 
 /// The answer to two filters: their namespaces in one list.

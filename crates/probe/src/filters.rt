@@ -1,5 +1,6 @@
 //! Rows of filters: a text in a scope, and what is printed of its filter with the namespaces that it needs, or the
 //! place at which it stops to write one. A scope is `PREFIX=NAMESPACE,PREFIX=NAMESPACE`, or `-` where it is empty.
+use crate::elements::spaces_of;
 use crate::escapes::{bytes_of, text_of};
 use ifmap_elem::{Copied, Equals, Many, Text};
 use ifmap_filter::{Filter, FilterError};
@@ -35,7 +36,7 @@ fn row_among(alloc: Global, asked: &str) -> Result<String, FilterError> {
     let (spaces, rest) = asked.split_once(' ').unwrap_or((asked, ""));
     let (scope, text) = rest.split_once(' ').unwrap_or((rest, ""));
     let filter = filter_of(alloc, &scope_of(alloc, scope)?, text)?;
-    printed_text(alloc, &filter, &list_of(alloc, spaces)?)
+    printed_text(alloc, &filter, &spaces_of(alloc, spaces)?)
 }
 
 /// The answer to a scope and a text: the filter with all its parts.
@@ -108,18 +109,9 @@ pub fn scope_of(alloc: Global, written: &str) -> Result<Scope, NoMemory> {
 
 fn scope_row(alloc: Global, row: &str) -> Result<(Text, Text), NoMemory> {
     let (prefix, space) = row.split_once('=').unwrap_or((row, ""));
-    Ok((
-        Text::from_str(alloc, prefix)?,
-        Text::from_str(alloc, space)?,
-    ))
-}
-
-fn list_of(alloc: Global, written: &str) -> Result<Many<Text>, NoMemory> {
-    let mut spaces = Vec::new(alloc);
-    for space in written.split(',') {
-        spaces.push(Text::from_str(alloc, space)?)?;
-    }
-    Ok(Many(spaces))
+    let prefix = Text::from_str(alloc, prefix)?;
+    let space = Text::from_str(alloc, space)?;
+    Ok((prefix, space))
 }
 
 // What is printed of the filter by these namespaces, where it and its copy are read back from it.

@@ -2,7 +2,7 @@
 use crate::documents::{BETWEEN, element_of, no_element};
 use crate::escapes::text_of;
 use crate::signs::signs_of;
-use ifmap_elem::{Copied, Element, Equals, canonical};
+use ifmap_elem::{Copied, Element, Equals, Many, canonical};
 use ifmap_ident::{IdentError, Identifier, IdentityType, Item, SharedItem};
 use std::alloc::{AllocError as NoMemory, Global};
 
@@ -44,10 +44,9 @@ fn answer_for(
 }
 
 fn is_read_back(alloc: Global, made: &Element, identifier: &Identifier) -> Result<bool, NoMemory> {
-    match Identifier::from_element(alloc, made) {
-        Ok(again) => Ok(again == *identifier),
-        Err(IdentError::NoMemory) => Err(NoMemory),
-        Err(_) => Ok(false),
+    match identifier_in(alloc, made)? {
+        Some(again) => Ok(again == *identifier),
+        None => Ok(false),
     }
 }
 
@@ -81,10 +80,14 @@ pub fn order_of(alloc: Global, asked: &str) -> Result<String, NoMemory> {
 }
 
 fn identifier_of(alloc: Global, text: &str) -> Result<Option<Identifier>, NoMemory> {
-    let Some(element) = element_of(alloc, text)? else {
-        return Ok(None);
-    };
-    match Identifier::from_element(alloc, &element) {
+    match element_of(alloc, text)? {
+        Some(element) => identifier_in(alloc, &element),
+        None => Ok(None),
+    }
+}
+
+fn identifier_in(alloc: Global, element: &Element) -> Result<Option<Identifier>, NoMemory> {
+    match Identifier::from_element(alloc, element) {
         Ok(identifier) => Ok(Some(identifier)),
         Err(IdentError::NoMemory) => Err(NoMemory),
         Err(_) => Ok(None),
@@ -128,14 +131,24 @@ fn text_of_ends(
     second: &Identifier,
     size: u64,
 ) -> Result<String, NoMemory> {
-    let first = canonical(alloc, &first.element(alloc)?)?;
-    let second = canonical(alloc, &second.element(alloc)?)?;
+    let first = bytes_of_identifier(alloc, first)?;
+    let second = bytes_of_identifier(alloc, second)?;
     if (first.len() as u64).saturating_add(second.len() as u64) != size {
         return String::from_str(alloc, "size differs");
     }
-    let first = text_of(alloc, first.as_slice())?;
-    let second = text_of(alloc, second.as_slice())?;
-    format!(in alloc; "{first}{BETWEEN}{second}")
+    text_of_both(alloc, first.as_slice(), second.as_slice())
+}
+
+fn bytes_of_identifier(alloc: Global, identifier: &Identifier) -> Result<Many<u8>, NoMemory> {
+    let element = identifier.element(alloc)?;
+    canonical(alloc, &element)
+}
+
+fn text_of_both(alloc: Global, first: &[u8], second: &[u8]) -> Result<String, NoMemory> {
+    let mut text = text_of(alloc, first)?;
+    text.push_str(BETWEEN)?;
+    text.push_str(text_of(alloc, second)?.as_str())?;
+    Ok(text)
 }
 
 /// The answer to the name of a type of identities: the type, and its name.

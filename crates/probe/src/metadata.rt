@@ -39,9 +39,13 @@ fn cardinality_in(metadata: &Metadata) -> &'static str {
 }
 
 fn metadata_of(alloc: Global, text: &str) -> Result<Option<Metadata>, NoMemory> {
-    let Some(element) = element_of(alloc, text)? else {
-        return Ok(None);
-    };
+    match element_of(alloc, text)? {
+        Some(element) => metadata_in(alloc, element),
+        None => Ok(None),
+    }
+}
+
+fn metadata_in(alloc: Global, element: Element) -> Result<Option<Metadata>, NoMemory> {
     match Metadata::from_element(alloc, element) {
         Ok(metadata) => Ok(Some(metadata)),
         Err(MetaError::NoMemory) => Err(NoMemory),
@@ -77,12 +81,18 @@ pub fn content_of(alloc: Global, asked: &str) -> Result<String, NoMemory> {
 
 fn text_of_content(alloc: Global, element: &Element) -> Result<String, NoMemory> {
     let bytes = content_bytes(alloc, element)?;
-    let content = content(alloc, element)?;
-    if canonical(alloc, &content)?.as_slice() == bytes.as_slice() {
+    if is_content(alloc, element, bytes.as_slice())? {
         text_of(alloc, bytes.as_slice())
     } else {
         String::from_str(alloc, "content differs")
     }
+}
+
+// Whether the content of the element has these canonical bytes.
+fn is_content(alloc: Global, element: &Element, bytes: &[u8]) -> Result<bool, NoMemory> {
+    let content = content(alloc, element)?;
+    let printed = canonical(alloc, &content)?;
+    Ok(printed.as_slice() == bytes)
 }
 
 /// The answer to the name of a client and an element: the canonical bytes of what is stored where this
@@ -202,11 +212,18 @@ pub fn client_name_of(alloc: Global, asked: &str) -> Result<String, NoMemory> {
 }
 
 fn client_of(alloc: Global, text: &str) -> Result<Option<ClientName>, NoMemory> {
-    let Some(bytes) = bytes_of(alloc, text)? else {
-        return Ok(None);
-    };
-    match std::str::from_utf8(bytes.as_slice()) {
-        Ok(name) => Ok(ClientName::new(Text::from_str(alloc, name)?)),
+    match bytes_of(alloc, text)? {
+        Some(bytes) => client_in(alloc, bytes.as_slice()),
+        None => Ok(None),
+    }
+}
+
+fn client_in(alloc: Global, bytes: &[u8]) -> Result<Option<ClientName>, NoMemory> {
+    match std::str::from_utf8(bytes) {
+        Ok(name) => {
+            let name = Text::from_str(alloc, name)?;
+            Ok(ClientName::new(name))
+        }
         Err(_) => Ok(None),
     }
 }

@@ -17,12 +17,18 @@ pub fn answer_of(alloc: Global, asked: &str) -> Result<String, NoMemory> {
 
 fn printed_of(alloc: Global, outline: &Outline<'_>) -> Result<String, NoMemory> {
     let printed = canonical_outline(alloc, outline)?;
-    let element = outline.element(alloc)?;
-    if canonical(alloc, &element)?.as_slice() == printed.as_slice() {
+    if is_printed(alloc, outline, printed.as_slice())? {
         text_of(alloc, printed.as_slice())
     } else {
         String::from_str(alloc, "element differs")
     }
+}
+
+// Whether the element that the outline stands for has these canonical bytes.
+fn is_printed(alloc: Global, outline: &Outline<'_>, bytes: &[u8]) -> Result<bool, NoMemory> {
+    let element = outline.element(alloc)?;
+    let printed = canonical(alloc, &element)?;
+    Ok(printed.as_slice() == bytes)
 }
 
 // An outline by the element's name.

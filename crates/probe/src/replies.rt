@@ -1,7 +1,7 @@
 //! Rows of replies: a body, and the reply that it means as it is sent, or that it means none.
 //! A body that stands as it is sent is answered `the same`.
 use crate::escapes::{bytes_of, text_of};
-use ifmap_elem::{Copied, Many, canonical};
+use ifmap_elem::{Copied, Element, Many, canonical};
 use ifmap_replies::{Reply, ReplyError, element_of, read_reply, reply_of, write_reply};
 use std::alloc::{AllocError as NoMemory, Global};
 
@@ -50,12 +50,22 @@ fn written_again(alloc: Global, body: &[u8]) -> Result<Option<Many<u8>>, NoMemor
 
 // The bytes of the element of a copy of a reply, after that element was read once more.
 fn written_by_elements(alloc: Global, reply: &Reply) -> Result<Option<Many<u8>>, NoMemory> {
-    let element = element_of(alloc, &reply.copy(alloc)?)?;
+    let element = element_of_copy(alloc, reply)?;
     match reply_of(alloc, &element) {
-        Ok(again) => Ok(Some(canonical(alloc, &element_of(alloc, &again)?)?)),
+        Ok(again) => Ok(Some(bytes_by_element(alloc, &again)?)),
         Err(ReplyError::NotAReply) => Ok(None),
         Err(ReplyError::NoMemory) => Err(NoMemory),
     }
+}
+
+fn element_of_copy(alloc: Global, reply: &Reply) -> Result<Element, NoMemory> {
+    let copy = reply.copy(alloc)?;
+    element_of(alloc, &copy)
+}
+
+fn bytes_by_element(alloc: Global, reply: &Reply) -> Result<Many<u8>, NoMemory> {
+    let element = element_of(alloc, reply)?;
+    canonical(alloc, &element)
 }
 
 /// How many bytes are written for the reply that a body means.

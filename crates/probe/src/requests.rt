@@ -48,21 +48,41 @@ fn request_in(alloc: Global, body: &[u8]) -> Result<Option<Request>, NoMemory> {
 
 // Whether two requests are the same, by the words that tell requests apart and by what is written of them.
 fn are_same(alloc: Global, one: &Request, other: &Request) -> Result<bool, NoMemory> {
-    let words = format!(in alloc; "{one:?}")?;
+    Ok(words_are_same(alloc, one, other)? && bytes_are_same(alloc, one, other)?)
+}
+
+fn words_are_same(alloc: Global, one: &Request, other: &Request) -> Result<bool, NoMemory> {
+    let words = words_of(alloc, one)?;
+    let other_words = words_of(alloc, other)?;
+    Ok(words == other_words)
+}
+
+fn words_of(alloc: Global, request: &Request) -> Result<String, NoMemory> {
+    format!(in alloc; "{request:?}")
+}
+
+fn bytes_are_same(alloc: Global, one: &Request, other: &Request) -> Result<bool, NoMemory> {
     let bytes = write_request(alloc, one)?;
-    let other_words = format!(in alloc; "{other:?}")?;
     let other_bytes = write_request(alloc, other)?;
-    Ok(words == other_words && bytes.as_slice() == other_bytes.as_slice())
+    Ok(bytes.as_slice() == other_bytes.as_slice())
 }
 
 /// How many bytes are written of the request that a body means.
 pub fn length_of(alloc: Global, asked: &str) -> Result<String, NoMemory> {
-    let Some(body) = bytes_of(alloc, asked)? else {
-        return String::from_str(alloc, "no bytes");
-    };
-    let Some(request) = request_in(alloc, body.as_slice())? else {
-        return String::from_str(alloc, "no request");
-    };
-    let length = write_request(alloc, &request)?.as_slice().len();
+    match bytes_of(alloc, asked)? {
+        Some(body) => length_of_body(alloc, body.as_slice()),
+        None => String::from_str(alloc, "no bytes"),
+    }
+}
+
+fn length_of_body(alloc: Global, body: &[u8]) -> Result<String, NoMemory> {
+    match request_in(alloc, body)? {
+        Some(request) => length_of_written(alloc, &request),
+        None => String::from_str(alloc, "no request"),
+    }
+}
+
+fn length_of_written(alloc: Global, request: &Request) -> Result<String, NoMemory> {
+    let length = write_request(alloc, request)?.as_slice().len();
     format!(in alloc; "{length}")
 }
