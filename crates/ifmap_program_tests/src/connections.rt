@@ -1,7 +1,7 @@
 //! Connections one after another at one server, with what each is answered.
+use crate::posts::{answers_of, posts_of};
 use crate::servers::{serve, stand_of};
 use ifmap_io::{MemoryDoor, MemoryLink};
-use ifmap_serving_tests::posts::{answers_of, posts_of};
 use std::alloc::{AllocError as NoMemory, Global};
 use std::collections::VecDeque;
 use std::test::Fail;

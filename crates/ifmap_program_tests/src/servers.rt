@@ -1,5 +1,5 @@
 //! The program as a server over doors in memory.
-use ifmap_dialogue_tests::desk::CountingGate;
+use crate::desk::CountingGate;
 use ifmap_io::{MemoryClock, MemoryDoor, MemoryLink, MemorySink, MemorySource, Moment};
 use ifmap_program::{NoProgress, RunSetting, Stand, run};
 use std::alloc::{AllocError as NoMemory, Global};

@@ -1,7 +1,7 @@
 //! A desk of plain values, which answers as it was told before, and keeps what it was asked.
 ghost use Rattle.std.specs.Prelude.{◌≡◌};
 ghost use Rattle.ifmap_dialogue.specs.Desks.{FitsAnswer};
-ghost use Rattle.ifmap_dialogue_tests.specs.Kinds.{IsKind};
+ghost use Rattle.ifmap_program_tests.specs.Kinds.{IsKind};
 
 use ifmap_dialogue::{Answer, Ask, Desk, Event, Gate, Reply, Request};
 use ifmap_elem::Many;

@@ -1,7 +1,7 @@
 -- Kinds of what is asked at a plain desk.
 use Rattle.std.specs.Prelude.{◌≡◌, ℕ, List}
-use Rattle.ifmap_dialogue_tests.specs.declared.desk.EventKind.{EventKind}
-use Rattle.ifmap_dialogue_tests.specs.declared.desk.EventKind.TheVariants as kind
+use Rattle.ifmap_program_tests.specs.declared.desk.EventKind.{EventKind}
+use Rattle.ifmap_program_tests.specs.declared.desk.EventKind.TheVariants as kind
 use Rattle.ifmap_dialogue.specs.ifmap_machine.declared.events.Ask.{Ask}
 use Rattle.ifmap_dialogue.specs.ifmap_machine.declared.events.Ask.TheVariants.{Lost, Request as Asking}
 use Rattle.ifmap_dialogue.specs.ifmap_requests.declared.requests.Request.{Request}

@@ -1,6 +1,6 @@
 use Rattle.std.proofs.Common.{refl, ◌∙◌}
-use Rattle.ifmap_dialogue_tests.proofs.Plain.{tells_done}
-use Rattle.ifmap_dialogue_tests.proofs.desk.PlainDeskDesk.ask.Goals as goal
+use Rattle.ifmap_program_tests.proofs.Plain.{tells_done}
+use Rattle.ifmap_program_tests.proofs.desk.PlainDeskDesk.ask.Goals as goal
 
 pub returns : goal.returns
 returns c = record {

@@ -3,7 +3,7 @@ ghost use Rattle.std.specs.Prelude.{◌≡◌, IfOk};
 ghost use Rattle.ifmap_dialogue.specs.ifmap_machine.Events.{IsFitAsk};
 ghost use Rattle.ifmap_dialogue.specs.ifmap_machine.State.{opening_state, session_seconds};
 
-use ifmap_core_tests::bodies::{client_of, request_of};
+use crate::bodies::{client_of, request_of};
 use ifmap_desks::{Core, CoreMachine, SESSION_SECONDS};
 use ifmap_dialogue::{Answer, Ask, Event};
 use ifmap_hall::Asked;

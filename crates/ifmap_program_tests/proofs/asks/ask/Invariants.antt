@@ -1,4 +1,4 @@
-use Rattle.ifmap_core_tests.proofs.asks.ask.Given as goal
+use Rattle.ifmap_program_tests.proofs.asks.ask.Given as goal
 
 abbrev pub ghosts-step_with : goal.ghosts-step_with
 ghosts-step_with a = record { name = a.blank.name; parts = a.blank.parts }

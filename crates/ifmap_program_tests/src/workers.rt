@@ -1,9 +1,9 @@
 //! What no clause says: which bytes come back from a door, and that workers run beside each other.
 ghost use Rattle.std.specs.Prelude.{◌≡◌};
 
+use crate::desk::{CountingGate, Noted, PlainDesk, Plan};
 use crate::gates::WaitingGate;
 use crate::posts::{answers_of, posts_of};
-use ifmap_dialogue_tests::desk::{CountingGate, Noted, PlainDesk, Plan};
 use ifmap_io::{MemoryClock, MemoryDoor, MemoryLink, Moment};
 use ifmap_serving::{Stand, serve, work};
 use rand_chacha::ChaCha20Rng;
