@@ -1,7 +1,7 @@
 //! A connection of more posts than one can have.
 use crate::desk::{CountingGate, PlainDesk, Plan};
-use crate::repeating::RepeatingLink;
 use crate::dialogues::{push_answer, start};
+use crate::repeating::RepeatingLink;
 use ifmap_dialogue::{Ending, serve_connection};
 use ifmap_http::Wire;
 use ifmap_io::MemoryClock;
