@@ -39,12 +39,30 @@ def copy_of_crates(rt):
         yield rt.crates_of(copy)
 
 
+def take_built(crate):
+    """Gives a crate of the copy what `rt ci` built of it in this checkout, for where it could keep nothing; returns whether there
+    is something that is newer than its sources. (`rt check` leaves a stamp beside its libraries, which fit no others.)"""
+    at = TOP / "crates" / crate.name
+    made = f"out/{crate.name}" if crate.is_program else f"out/rlib/{crate.name}.rlib"
+    told = at / made if crate.is_program else at / made / "format"
+    if not told.is_file() or (at / "out" / "rlib" / "stamp").exists():
+        return False
+    sources = [TOP / "crates.txt", *(it for part in ("src", "specs", "proofs") for it in (at / part).rglob("*"))]
+    if any(it.stat().st_mtime > told.stat().st_mtime for it in sources):
+        return False
+    os.makedirs(os.path.dirname(f"{crate.folder}/{made}"), exist_ok=True)
+    (shutil.copy2 if crate.is_program else shutil.copytree)(at / made, f"{crate.folder}/{made}")
+    return True
+
+
 def give_kept(rt, crates):
     """Gives each crate what `rt ci` proved of the same text, a library or a program, and returns those that lack it, by name."""
     kept, lacking = rt.Kept(crates), set()
     for crate in crates:
-        if any(below.name in lacking for below in crate.below()) or not kept.give(crate, False, kept.key(crate)):
+        if any(below.name in lacking for below in crate.below()):
             lacking.add(crate.name)
-        else:
+        elif kept.give(crate, False, kept.key(crate)) or take_built(crate):
             kept.is_built(crate)
+        else:
+            lacking.add(crate.name)
     return lacking
